@@ -20,3 +20,4 @@ pub mod Branching
 pub mod LastForms
 pub mod ReadThere
 pub mod Ready
+pub mod Aimed

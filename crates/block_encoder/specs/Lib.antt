@@ -7,3 +7,4 @@ pub mod ByPlan
 pub mod Last
 pub mod Facts
 pub mod LawsBelow
+pub mod Going

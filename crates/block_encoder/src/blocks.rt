@@ -2,10 +2,12 @@
 
 ghost use Rattle.std.specs.Prelude.{◌≡◌};
 ghost use Rattle.move_goals.specs.Items as old;
+ghost use Rattle.block_encoder.specs.Going.{GoToGoals};
 ghost use Rattle.block_encoder.specs.Moved.{IsAnswer};
 
 use crate::by_plan::move_with_ready;
 use crate::error::MoveError;
+use crate::laws_below::laws_below;
 use crate::moved::{Moved, MovedBlocks};
 use branch_sizes::{BlockSpan, MOST_ITEMS};
 use move_goals::{Placed, first_disorder, first_old_pass, plan_with_ready, ready_bytes};
@@ -23,6 +25,9 @@ use x86_values::Bits;
 /// `TooMany`: there are more than 65,536 items. `OldOrder`: an item that is not the first of its block does not begin where the one before it ended.
 /// `Wraps`: an old end, else a new end, passes the address space of the mode, the first that does. `TooFar`: an item does not reach its goal, the
 /// first that does not. `Memory` may stand in place of what comes behind `OldOrder`.
+///
+/// Each branch reaches its target or the moved copy of it: `answer` says that the blocks are those of the least layout, and `goals` that the image of
+/// each item goes to the goal of that item (`GoesToGoal`).
 pub fn move_blocks(
     alloc: Global,
     bits: Bits,
@@ -31,8 +36,10 @@ pub fn move_blocks(
 ) -> Result<MovedBlocks, MoveError>
     requires spans { old.AreSpansOf items.now spans.now }
     requires placed { old.ArePlaced bits items.now }
-    ensures { IsAnswer bits items.now spans.now result }
+    ensures answer { IsAnswer bits items.now spans.now result }
+    ensures goals { GoToGoals bits items.now spans.now result }
 {
+    laws_below();
     if items.len() > MOST_ITEMS {
         return Err(MoveError::TooMany {
             count: items.len() as u64,

@@ -91,6 +91,7 @@ least_from p w (suc fuel) layout lo small below =
           least_from p w fuel next grows.layout (omega (arith, less, small)) (λ other cl. grows.below other cl (below other cl))
     ]
 
+-- every well-formed plan has a least closed layout
 pub least_exists : (p : BlockPlan) → IsWellFormed p → (least : List ℕ) × IsLeast p least
 least_exists p w =
     least_from p w (suc (room p (first_layout p))) (first_layout p) (first_is_layout p w) (omega arith)

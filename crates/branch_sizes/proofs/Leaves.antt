@@ -21,6 +21,7 @@ leaf_behind lens tree e u le =
     subst (λ t. get_or t u 0 ≡ get_or lens (u - length lens) 0) (sym e)
     (get_or-append_right (replicate (length lens) 0) lens (length lens) u 0 (length-replicate (length lens) 0) le)
 
+-- the second half of a new tree has the lengths
 pub leaf_at : (lens tree : List ℕ) → tree ≡ replicate (length lens) 0 ++ lens
     → (k : ℕ) → get_or tree (length lens + k) 0 ≡ get_or lens k 0
 leaf_at lens tree e k =

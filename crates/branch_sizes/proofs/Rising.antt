@@ -10,6 +10,7 @@ use Rattle.branch_sizes.specs.Plan.{BlockPlan, item_at, choices_at, no_choice, n
 use Rattle.branch_sizes.specs.Layout.{IsLayout, AtMost, image_length, first_layout}
 use Rattle.branch_sizes.specs.Facts.{IsBranchFit}
 
+-- a test that holds of all items holds at an index
 pub passes_at : {X : Type 0} (p : X → Bool) (xs : List X) (k : ℕ) (d : X) → list_all p xs ≡ true → k < length xs → p (get_or xs k d) ≡ true
 passes_at p [] k d h lt = absurd (omega arith)
 passes_at p (x ∷ xs) zero d h lt = (and_parts (p x) (list_all p xs) h).0
@@ -23,6 +24,7 @@ rest_rises low c cs h =
     let b = and_parts (nat_le c.len 15) (lengths_rise_from c.len cs) a.1 in
     (leb-true low c.len a.0, leb-true c.len 15 b.0, b.1)
 
+-- a choice is at least as long as the first
 pub length_at_least : (low : ℕ) (cs : List Choice) (f : ℕ) → lengths_rise_from low cs ≡ true → f < length cs
     → low ≤ (get_or cs f no_choice).len
 length_at_least low [] f h lt = absurd (omega arith)
@@ -31,12 +33,14 @@ length_at_least low (c ∷ cs) (suc f) h lt =
     let r = rest_rises low c cs h in
     omega (arith, r.0, length_at_least c.len cs f r.2 (omega arith))
 
+-- and at most as long as the last
 pub length_at_most : (low : ℕ) (cs : List Choice) (f : ℕ) → lengths_rise_from low cs ≡ true
     → (get_or cs f no_choice).len ≤ 15
 length_at_most low [] f h = omega arith
 length_at_most low (c ∷ cs) zero h = (rest_rises low c cs h).1
 length_at_most low (c ∷ cs) (suc f) h = length_at_most c.len cs f (rest_rises low c cs h).2
 
+-- a later choice is at least as long as an earlier one
 pub length_rises : (low : ℕ) (cs : List Choice) (e f : ℕ) → lengths_rise_from low cs ≡ true → e ≤ f → f < length cs
     → (get_or cs e no_choice).len ≤ (get_or cs f no_choice).len
 length_rises low [] e f h le lt = absurd (omega arith)
@@ -61,6 +65,7 @@ fit_branch count b h =
       differ = (and_parts _ _ x.1).1;
     }
 
+-- each item of a well-formed plan is well formed
 pub fit_item : (p : BlockPlan) → IsWellFormed p → (k : ℕ) → k < length p.items → IsBranchFit (length p.items) (item_at p k)
 fit_item p w k lt = fit_branch (length p.items) (item_at p k) (passes_at (is_fit_branch (length p.items)) p.items k no_branch w.fit lt)
 
@@ -87,6 +92,7 @@ image_short p w layout k =
       | inr ge ↦ omega (arith, no_image p layout k ge)
     ]
 
+-- the first layout has choice 0 everywhere
 pub first_zero : (n k : ℕ) → get_or {A = ℕ} (replicate n 0) k 0 ≡ 0
 first_zero zero k = refl
 first_zero (suc n) zero = refl

@@ -38,6 +38,7 @@ pub end_from-push : (from : ℕ) (spans : List Span) (span : Span) → end_from 
 end_from-push from [] span = refl
 end_from-push from (other ∷ spans) span = end_from-push (other.start + other.len) spans span
 
+-- up to a span of the list, spans end where that span does
 pub end_from-take : (from : ℕ) (spans : List Span) (i : ℕ) → i < length spans → end_from from (take (i + 1) spans) ≡ (gap_span_at spans i).start + (gap_span_at spans i).len
 end_from-take from spans i h = rw (take_more spans i nowhere h) (end_from-push from (take i spans) (gap_span_at spans i))
 
@@ -49,6 +50,7 @@ first_gap-skip from limit needed i spans h short =
     ap (λ xs. first_gap needed (gaps_between from limit xs)) (drop_more spans i nowhere h) ∙
     rw (lt-leb needed ((gap_span_at spans i).start - from) short) refl
 
+-- the longest gap is the longer of the gap before a span and of those after it
 pub longest-skip : (from limit i : ℕ) (spans : List Span) → i < length spans →
     longest (gaps_between from limit (drop i spans)) ≡
     max ((gap_span_at spans i).start - from) (longest (gaps_between ((gap_span_at spans i).start + (gap_span_at spans i).len) limit (drop (i + 1) spans)))
@@ -90,8 +92,10 @@ fit-here limit needed index from packed next spans inside n front first some fit
   tight = tight;
 }
 
+-- the spans from an index on start where the span of that index does
 pub next_start-at : (limit index : ℕ) (spans : List Span) → index < length spans → next_start limit (drop index spans) ≡ (gap_span_at spans index).start
 next_start-at limit index spans h = ap (next_start limit) (drop_more spans index nowhere h)
 
+-- behind the last span the next start is the limit
 pub next_start-end : (limit : ℕ) (spans : List Span) → next_start limit (drop (length spans) spans) ≡ limit
 next_start-end limit spans = ap (next_start limit) (drop_all (length spans) spans (omega arith))

@@ -26,6 +26,7 @@ apart-addresses base max_blocks capacity bytes spans spans' e kept =
 pub at-same : (base place : ℕ) (spans spans' : List Span) (index : ℕ) → spans ≡ spans' → IsAt base place spans index → IsAt base place spans' index
 at-same base place spans spans' index e at = let P : List Span → Type 0 = λ xs. IsAt base place xs index in subst P e at
 
+-- equal lists of spans start nowhere alike
 pub nowhere-same : (base place : ℕ) (spans spans' : List Span) → spans ≡ spans' → IsNowhere base place spans → IsNowhere base place spans'
 nowhere-same base place spans spans' e none = let P : List Span → Type 0 = λ xs. IsNowhere base place xs in subst P e none
 
@@ -38,6 +39,7 @@ live_block-at base max_blocks capacity bytes spans state place index e kept at =
     let P : RegionState → Type 0 = λ s. live_block s place ≡ Some (block_of base bytes (gap_span_at spans index)) in
     subst P e (find-view base place 0 (length bytes) bytes spans index kept.apart at.inside at.starts)
 
+-- a place at which no span starts has no live block
 pub live_block-nowhere : (base max_blocks : ℕ) (bytes : List ℕ) (spans : List Span) (state : RegionState) (place : ℕ) →
     region_state_of base max_blocks bytes spans ≡ state → IsNowhere base place spans → live_block state place ≡ None
 unfolding live_block
@@ -57,6 +59,7 @@ filter-nowhere base place bytes (span ∷ spans) none =
 abbrev with_live : ℕ → ℕ → ℕ → List LiveBlock → RegionState
 with_live base max_blocks size live = record { base = base; size = size; max_blocks = max_blocks; live = live }
 
+-- its release changes nothing
 pub released-nowhere : (base max_blocks : ℕ) (bytes : List ℕ) (spans : List Span) (state : RegionState) (place : ℕ) →
     region_state_of base max_blocks bytes spans ≡ state → IsNowhere base place spans → state ≡ after_release state place
 unfolding after_release
@@ -64,10 +67,12 @@ released-nowhere base max_blocks bytes spans state place e none =
     let P : RegionState → Type 0 = λ s. s ≡ after_release s place in
     subst P e (ap (with_live base max_blocks (length bytes)) (sym (filter-nowhere base place bytes spans none)))
 
+-- and is refused with that place
 pub answer-nowhere : (state : RegionState) (place : ℕ) → live_block state place ≡ None → Err (record { place = place }) ≡ release_answer state place
 unfolding release_answer
 answer-nowhere state place e = sym (ap (λ found. release_of found place) e)
 
+-- the release of a live block succeeds
 pub answer-at : (state : RegionState) (place : ℕ) (block : LiveBlock) → live_block state place ≡ Some block → Ok tt ≡ release_answer state place
 unfolding release_answer
 answer-at state place block e = sym (ap (λ found. release_of found place) e)
@@ -93,6 +98,7 @@ pub record IsWithout (base max_blocks capacity place : ℕ) (bytes : List ℕ) (
   pub kept : IsKept base max_blocks (with_bytes_at bytes (gap_span_at spans index).start (replicate (gap_span_at spans index).len int3)) (remove spans index) capacity
   pub view : region_state_of base max_blocks (with_bytes_at bytes (gap_span_at spans index).start (replicate (gap_span_at spans index).len int3)) (remove spans index) ≡ after_release state place
 
+-- the release of the span at an index takes that span away
 pub without-found : (base max_blocks capacity place index : ℕ) (bytes : List ℕ) (spans : List Span) (state : RegionState) →
     region_state_of base max_blocks bytes spans ≡ state → IsKept base max_blocks bytes spans capacity → IsAt base place spans index →
     IsWithout base max_blocks capacity place bytes spans index state
@@ -152,6 +158,7 @@ can_fill-some state place count block e h =
     let P : Option LiveBlock → Type 0 = λ found. IsTrue (block_holds found count) in
     leb-true count block.len (subst P e h)
 
+-- without a live block at the place nothing can be filled
 pub can_fill-none : (state : RegionState) (place count : ℕ) → live_block state place ≡ None → IsTrue (can_fill state place count) → ⊥
 unfolding can_fill
 can_fill-none state place count e h =

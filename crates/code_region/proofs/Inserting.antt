@@ -29,6 +29,7 @@ pub record Inserts (base : ℕ) (bytes : List ℕ) (from limit : ℕ) (spans : L
   pub inside : span.start + span.len ≤ limit
   pub blocks : with_block (block_of base bytes span) (map (block_of base bytes) spans) ≡ map (block_of base bytes) (insert spans index span)
 
+-- a span that is put in at its index lies in the gap that was there
 pub gap-insert : (base : ℕ) (bytes : List ℕ) (from limit : ℕ) (spans : List Span) (index : ℕ) (span : Span) →
     AreApart from limit spans → IsQuietAround bytes from limit spans → IsGap from limit spans index span → Inserts base bytes from limit spans index span
 gap-insert base bytes from limit [] zero span apart quiet gap = record {

@@ -14,6 +14,7 @@ pub record Starts (from limit needed packed : ℕ) (spans : List Span) : Type 0 
   pub first : first_gap needed (gaps_between from limit spans) ≡ first_gap needed (gaps_between (end_from from (take packed spans)) limit (drop packed spans))
   pub long : longest (gaps_between from limit spans) ≡ longest (gaps_between (end_from from (take packed spans)) limit (drop packed spans))
 
+-- joining the first spans keeps where the list starts
 pub joined-start : (from limit needed packed : ℕ) (spans : List Span) → AreApart from limit spans → packed ≤ length spans →
     AreJoined from (take packed spans) → 0 < needed → Starts from limit needed packed spans
 joined-start from limit needed zero spans apart h joined some = record { apart = apart; first = refl; long = refl }

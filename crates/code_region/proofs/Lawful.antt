@@ -19,6 +19,7 @@ laid-inside from limit (block ∷ live) (suc k) d laid h =
     let p = laid.0 in
     (omega arith, rest.1)
 
+-- the blocks of a sound region lie inside its range
 pub sound-inside : (state : RegionState) → IsSound state → AreInside state
 sound-inside state sound = λ k d h. laid-inside state.base (state.base + state.size) state.live k d sound h
 
@@ -30,6 +31,7 @@ laid-pairs from limit (block ∷ live) zero (suc j) d laid h l = (laid-inside (b
 laid-pairs from limit (block ∷ live) (suc i) (suc j) d laid h l = laid-pairs (block.place + block.len) limit live i j d laid.3 (omega arith) (omega arith)
 laid-pairs from limit (block ∷ live) i zero d laid h l = absurd (omega arith)
 
+-- no two of them overlap
 pub sound-disjoint : (state : RegionState) → IsSound state → AreDisjoint state
 sound-disjoint state sound = λ i j d h l. laid-pairs state.base (state.base + state.size) state.live i j d sound h l
 
@@ -58,6 +60,7 @@ filter-with_block block place (other ∷ live) e =
       ]
     ]
 
+-- placing a block and releasing it restores the region
 pub sound-restores : (state : RegionState) (len place : ℕ) → IsSound state → place_answer state len ≡ Ok place → Restores state len place
 unfolding after_place after_release release_answer live_block
 sound-restores state len place sound e =

@@ -12,6 +12,7 @@ pub open-bounds : (base size max_blocks : ℕ) → open_refusal base size max_bl
 unfolding open_refusal
 open-bounds base size max_blocks e = grind (arith, nat_tests)
 
+-- a region that opens is empty and keeps its invariant
 pub kept-opened : (base size max_blocks capacity : ℕ) (bytes : List ℕ) (spans : List Span) → open_refusal base size max_blocks ≡ None →
     bytes ≡ replicate size int3 → spans ≡ [] → max_blocks ≤ capacity → IsKept base max_blocks bytes spans capacity
 kept-opened base size max_blocks capacity bytes spans e b s room =

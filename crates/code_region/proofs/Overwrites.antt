@@ -14,9 +14,11 @@ overwritten-put_mid bytes start at xs ys e h =
     let n : at + length ys ≡ start + length (xs ++ ys) = omega (arith, length-append xs ys) in
     rw (front, back, n) (simp append_assoc)
 
+-- overwriting bytes is std's replacement of the middle part of a list
 pub overwritten_is : (bytes : List ℕ) (start : ℕ) (xs : List ℕ) → with_bytes_at bytes start xs ≡ put_mid start (length xs) bytes xs
 overwritten_is bytes start xs = ap (λ rest. take start bytes ++ (xs ++ rest)) (sym (drop-drop (length xs) start bytes))
 
+-- overwriting keeps the number of bytes
 pub length-overwritten : (bytes : List ℕ) (start : ℕ) (xs : List ℕ) → start + length xs ≤ length bytes → length (with_bytes_at bytes start xs) ≡ length bytes
 length-overwritten bytes start xs h =
     let l = length-append (take start bytes) (xs ++ drop (start + length xs) bytes) in
@@ -31,12 +33,14 @@ part-below bytes start xs at len h below =
     ap (λ ys. take len (drop at ys)) (overwritten_is bytes start xs) ∙ sym (drop-take at len (put_mid start (length xs) bytes xs)) ∙
     ap (λ ys. drop at ys) (take-put_mid_below start (length xs) bytes xs (at + len) below h) ∙ drop-take at len bytes
 
+-- it keeps each part that starts behind the overwritten bytes
 pub part-above : (bytes : List ℕ) (start : ℕ) (xs : List ℕ) (at len : ℕ) → start ≤ length bytes → start + length xs ≤ at →
     take len (drop at (with_bytes_at bytes start xs)) ≡ take len (drop at bytes)
 part-above bytes start xs at len h above =
     ap (λ ys. take len (drop at ys)) (overwritten_is bytes start xs) ∙
     ap (λ ys. take len ys) (drop-put_mid start (length xs) bytes xs at above h refl)
 
+-- the part at the start is what was written
 pub part-at : (bytes : List ℕ) (start : ℕ) (xs : List ℕ) (len : ℕ) → start ≤ length bytes → length xs ≡ len →
     take len (drop start (with_bytes_at bytes start xs)) ≡ xs
 part-at bytes start xs len h l =
@@ -50,6 +54,7 @@ byte-below bytes start xs k h below =
     let l = length-take-le start bytes h in
     get_or_append_left (take start bytes) (xs ++ drop (start + length xs) bytes) 0 k (omega arith) ∙ get_or-take start bytes k 0 below
 
+-- it keeps each byte behind the overwritten ones
 pub byte-above : (bytes : List ℕ) (start : ℕ) (xs : List ℕ) (k : ℕ) → start ≤ length bytes → start + length xs ≤ k →
     get_or (with_bytes_at bytes start xs) k 0 ≡ get_or bytes k 0
 byte-above bytes start xs k h above =
@@ -59,6 +64,7 @@ byte-above bytes start xs k h above =
     get_or-append_right xs (drop (start + length xs) bytes) (length xs) (k - start) 0 refl (omega arith) ∙
     get_or-drop (start + length xs) bytes (k - start - length xs) 0 ∙ ap (λ n. get_or bytes n 0) e
 
+-- each byte among them is the one that was written
 pub byte-at : (bytes : List ℕ) (start : ℕ) (xs : List ℕ) (k : ℕ) → start ≤ length bytes → start ≤ k → k < start + length xs →
     get_or (with_bytes_at bytes start xs) k 0 ≡ get_or xs (k - start) 0
 byte-at bytes start xs k h at below =

@@ -20,6 +20,7 @@ pub placed-refused : (state : RegionState) (len : ℕ) (refusal : PlaceError) �
 unfolding after_place
 placed-refused state len refusal e = ap (λ answer. placed_as answer state len) e
 
+-- a length of 0 is refused as empty
 pub answer-empty : (state : RegionState) (len : ℕ) → len ≡ 0 → Err Empty ≡ place_answer state len
 unfolding place_answer
 answer-empty state len e = rw (eq-eqb len 0 e) refl
@@ -41,6 +42,7 @@ answer-open base max_blocks bytes spans len needed found largest some room e fir
     let l = ap longest gaps ∙ longest-moved base (gaps_between 0 (length bytes) spans) ∙ long in
     rw (ne_eqb len 0 some, length-map spans (block_of base bytes), ne_eqb (length spans) max_blocks room, f, l, ← e, first) refl
 
+-- at the most blocks a further one is refused
 pub answer-many : (base max_blocks : ℕ) (bytes : List ℕ) (spans : List Span) (state : RegionState) (len : ℕ) → region_state_of base max_blocks bytes spans ≡ state →
     (len ≡ 0 → ⊥) → length spans ≡ max_blocks → Err (TooManyBlocks max_blocks) ≡ place_answer state len
 unfolding place_answer
@@ -48,6 +50,7 @@ answer-many base max_blocks bytes spans state len e some full =
     let P : RegionState → Type 0 = λ s. Err (TooManyBlocks max_blocks) ≡ place_answer s len in
     subst P e (rw (ne_eqb len 0 some, length-map spans (block_of base bytes), eq-eqb (length spans) max_blocks full) refl)
 
+-- a length for which a gap was found gets the start of that gap
 pub answer-found : (base max_blocks : ℕ) (bytes : List ℕ) (spans : List Span) (state : RegionState) (len needed index start packed : ℕ) →
     region_state_of base max_blocks bytes spans ≡ state → (len ≡ 0 → ⊥) → (length spans ≡ max_blocks → ⊥) → needed ≡ len_in_units len →
     IsGapFit (length bytes) spans needed index start packed → Ok (base + start) ≡ place_answer state len
@@ -55,6 +58,7 @@ answer-found base max_blocks bytes spans state len needed index start packed e s
     let P : RegionState → Type 0 = λ s. Ok (base + start) ≡ place_answer s len in
     subst P e (sym (answer-open base max_blocks bytes spans len needed _ _ some room r fit.first refl))
 
+-- without such a gap the region is full, with the length of its largest gap
 pub answer-full : (base max_blocks : ℕ) (bytes : List ℕ) (spans : List Span) (state : RegionState) (len needed largest : ℕ) →
     region_state_of base max_blocks bytes spans ≡ state → (len ≡ 0 → ⊥) → (length spans ≡ max_blocks → ⊥) → needed ≡ len_in_units len →
     IsFull (length bytes) spans needed largest → Err (Full needed largest) ≡ place_answer state len
@@ -70,6 +74,7 @@ fit-same limit limit' spans spans' needed index start packed e f fit =
     let Q : List Span → Type 0 = λ xs. IsGapFit limit xs needed index start packed in
     subst P e (subst Q f fit)
 
+-- the search that finds nothing depends on the limit and the spans alone
 pub full-same : (limit limit' : ℕ) (spans spans' : List Span) (needed largest : ℕ) → limit ≡ limit' → spans ≡ spans' →
     IsFull limit spans needed largest → IsFull limit' spans' needed largest
 full-same limit limit' spans spans' needed largest e f full =
@@ -84,6 +89,7 @@ fit-inserts base max_blocks bytes spans capacity needed index start packed kept 
     gap-insert base bytes 0 (length bytes) spans index (record { start = start; len = needed }) kept.apart kept.quiet
     (record { inside = fit.inside; front = fit.front; some = some; fits = fit.fits })
 
+-- the invariant holds after the insertion of a span into its gap
 pub kept-insert : (base max_blocks : ℕ) (bytes : List ℕ) (spans : List Span) (capacity more needed index start packed : ℕ) → IsKept base max_blocks bytes spans capacity →
     0 < needed → (length spans ≡ max_blocks → ⊥) → capacity ≤ more → IsGapFit (length bytes) spans needed index start packed →
     IsKept base max_blocks bytes (insert spans index (record { start = start; len = needed })) more
@@ -100,6 +106,7 @@ kept-insert base max_blocks bytes spans capacity more needed index start packed 
       roomy = omega arith;
     }
 
+-- the region after that is the one that placing gives
 pub state-insert : (base max_blocks : ℕ) (bytes : List ℕ) (spans : List Span) (state : RegionState) (capacity len needed index start packed : ℕ) →
     region_state_of base max_blocks bytes spans ≡ state → IsKept base max_blocks bytes spans capacity → (len ≡ 0 → ⊥) → (length spans ≡ max_blocks → ⊥) →
     needed ≡ len_in_units len → IsGapFit (length bytes) spans needed index start packed →

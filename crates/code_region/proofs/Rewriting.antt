@@ -22,6 +22,7 @@ block-below base bytes start xs span h below =
     let with_bytes : List ℕ → LiveBlock = λ content. record { place = base + span.start; len = span.len; content = content } in
     ap with_bytes (part-below bytes start xs span.start span.len h below)
 
+-- blocks behind overwritten bytes keep their content
 pub blocks-above : (base : ℕ) (bytes : List ℕ) (start : ℕ) (xs : List ℕ) (from limit : ℕ) (spans : List Span) → start ≤ length bytes → start + length xs ≤ from →
     AreApart from limit spans → map (block_of base (with_bytes_at bytes start xs)) spans ≡ map (block_of base bytes) spans
 blocks-above base bytes start xs from limit [] h above apart = refl
@@ -57,6 +58,7 @@ filter-above base place bytes from limit (span ∷ spans) h apart =
     rw (ne_eqb (base + span.start) place other)
     (ap (λ bs. block_of base bytes span ∷ bs) (filter-above base place bytes (span.start + span.len) limit spans (omega arith) apart.2))
 
+-- a fill before the spans changes none of them
 pub fill-above : (base place : ℕ) (bytes content : List ℕ) (from limit : ℕ) (spans : List Span) → place < base + from → AreApart from limit spans →
     map (λ block. if nat_eq block.place place then with_content content block else block) (map (block_of base bytes) spans) ≡ map (block_of base bytes) spans
 fill-above base place bytes content from limit [] h apart = refl
@@ -72,6 +74,7 @@ pub record Removes (base place start : ℕ) (bytes xs : List ℕ) (from limit : 
   pub blocks : map (block_of base (with_bytes_at bytes start xs)) (remove spans index) ≡
       filter (λ block. not (nat_eq block.place place)) (map (block_of base bytes) spans)
 
+-- releasing the block of a span is removing the span
 pub span-remove : (base place start : ℕ) (bytes xs : List ℕ) (from limit : ℕ) (spans : List Span) (index : ℕ) → limit ≤ length bytes →
     AreApart from limit spans → IsQuietAround bytes from limit spans → index < length spans →
     base + start ≡ place → (gap_span_at spans index).start ≡ start → xs ≡ replicate (gap_span_at spans index).len int3 →
@@ -114,6 +117,7 @@ pub record Refills (base place start : ℕ) (bytes content xs : List ℕ) (from 
   pub blocks : map (block_of base (with_bytes_at bytes start xs)) spans ≡
       map (λ block. if nat_eq block.place place then with_content content block else block) (map (block_of base bytes) spans)
 
+-- filling the block of a span is overwriting its bytes
 pub span-refill : (base place start : ℕ) (bytes content xs : List ℕ) (from limit : ℕ) (spans : List Span) (index : ℕ) → limit ≤ length bytes →
     AreApart from limit spans → IsQuietAround bytes from limit spans → index < length spans →
     base + start ≡ place → (gap_span_at spans index).start ≡ start → length xs ≡ (gap_span_at spans index).len →

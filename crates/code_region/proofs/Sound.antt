@@ -35,6 +35,7 @@ filter-behind place from limit (block ∷ live) h laid =
     let other : block.place ≡ place → ⊥ = λ same. absurd (omega arith) in
     rw (ne_eqb block.place place other) (ap (λ bs. block ∷ bs) (filter-behind place (block.place + block.len) limit live (omega arith) laid.3))
 
+-- a fill before the blocks changes none of them
 pub fill-behind : (place from limit : ℕ) (bytes : List ℕ) (live : List LiveBlock) → place < from → AreLaid from limit live →
     map (λ block. if nat_eq block.place place then with_content bytes block else block) live ≡ live
 fill-behind place from limit bytes [] h laid = refl
@@ -49,6 +50,7 @@ pub record Fits (from limit len : ℕ) (live : List LiveBlock) (gap : Span) : Ty
   pub laid : AreLaid from limit (with_block (unfilled_block gap.start len) live)
   pub fresh : filter (λ block. not (nat_eq block.place gap.start)) live ≡ live
 
+-- a gap with room for a length lies between the blocks around it
 pub gap-fits : (from limit len : ℕ) (live : List LiveBlock) (gap : Span) → 0 < len → AreLaid from limit live →
     first_gap len (gaps_between from limit (map span_of live)) ≡ Some gap → Fits from limit len live gap
 gap-fits from limit len [] gap some laid e =
@@ -115,6 +117,7 @@ front-finds : (found : Option Span) (len largest place : ℕ) → place_in_gap f
 front-finds None len largest place e = absurd cc
 front-finds (Some gap) len largest place e = (gap, refl, cc)
 
+-- a place that is handed out is the start of the first gap with room for the length
 pub answer-finds : (state : RegionState) (len place : ℕ) → place_answer state len ≡ Ok place → (gap : Span) × Finds state len place gap
 unfolding place_answer
 answer-finds state len place e =
@@ -153,6 +156,7 @@ placed-sound state len (Ok place) sound e =
     subst P fits.2 fits.1.laid
 placed-sound state len (Err refusal) sound e = sound
 
+-- blocks that are laid out stay so if some are dropped
 pub filter-laid : (p : LiveBlock → Bool) (from limit : ℕ) (live : List LiveBlock) → AreLaid from limit live → AreLaid from limit (filter p live)
 filter-laid p from limit [] laid = laid
 filter-laid p from limit (block ∷ live) laid =
@@ -163,6 +167,7 @@ filter-laid p from limit (block ∷ live) laid =
       | false ↦ AreLaid-lower (block.place + block.len) from limit (filter p live) (omega arith) rest
     ]
 
+-- and if one of them is filled
 pub fill-laid : (place from limit : ℕ) (bytes : List ℕ) (live : List LiveBlock) → AreLaid from limit live →
     IsTrue (block_holds (find (λ block. nat_eq block.place place) live) (length bytes)) →
     AreLaid from limit (map (λ block. if nat_eq block.place place then with_content bytes block else block) live)
@@ -193,12 +198,14 @@ filled_if-sound state place byte count true e sound =
     fill-laid place state.base (state.base + state.size) (replicate count byte) state.live sound (subst P (sym (length-replicate count byte)) e)
 filled_if-sound state place byte count false e sound = sound
 
+-- a command keeps a region sound
 pub after-sound : (state : RegionState) (command : Command) → IsSound state → IsSound (after state command)
 unfolding after after_place after_release
 after-sound state (Place len) sound = placed-sound state len (place_answer state len) sound refl
 after-sound state (Release place) sound = filter-laid _ state.base (state.base + state.size) state.live sound
 after-sound state (Fill place byte count) sound = filled_if-sound state place byte count (can_fill state place count) refl sound
 
+-- so do all commands of a list
 pub run-sound : (state : RegionState) (commands : List Command) → IsSound state → IsSound (run state commands)
 run-sound state [] sound = sound
 run-sound state (command ∷ commands) sound = run-sound (after state command) commands (after-sound state command sound)
@@ -209,14 +216,17 @@ opened-sound base size max_blocks = omega arith
 
 -- ---- by the calls
 
+-- placing keeps a region sound
 pub place-sound : (state : RegionState) (len : ℕ) → IsSound state → IsSound (after_place state len)
 unfolding after_place
 place-sound state len sound = placed-sound state len (place_answer state len) sound refl
 
+-- so does releasing
 pub released-sound : (state : RegionState) (place : ℕ) → IsSound state → IsSound (after_release state place)
 unfolding after_release
 released-sound state place sound = filter-laid _ state.base (state.base + state.size) state.live sound
 
+-- and so does a fill that fits
 pub filled-sound : (state : RegionState) (place : ℕ) (bytes : List ℕ) → IsSound state → IsTrue (can_fill state place (length bytes)) → IsSound (after_fill state place bytes)
 unfolding after_fill can_fill live_block
 filled-sound state place bytes sound fits = fill-laid place state.base (state.base + state.size) bytes state.live sound fits

@@ -20,6 +20,7 @@ use Rattle.code_region.proofs.Sound.{answer-finds, after-sound}
 abbrev pub IsUnits : ℕ → LiveBlock → Type 0
 IsUnits base block = ((block.place - base) % 16 ≡ 0) × (block.len % 16 ≡ 0)
 
+-- blocks have places and lengths in units of 16 bytes, counted from the base
 abbrev pub AreUnits : ℕ → List LiveBlock → Type 0
 AreUnits base [] = Unit {0}
 AreUnits base (block ∷ live) = IsUnits base block × AreUnits base live
@@ -29,6 +30,7 @@ units-all base [] k d u h = absurd (omega arith)
 units-all base (block ∷ live) zero d u h = u.0
 units-all base (block ∷ live) (suc k) d u h = units-all base live k d u.1 (omega arith)
 
+-- a length in units is a multiple of 16
 pub rounded-units : (len : ℕ) → len_in_units len % 16 ≡ 0
 unfolding len_in_units
 rounded-units len = by_bound (nat_le len (2 ^ 64 - 16))
@@ -148,19 +150,23 @@ all-units base (block ∷ live) h = (h 0 block (omega arith), all-units base liv
 in_units : (base : ℕ) (state : RegionState) → state.base ≡ base → AreUnits base state.live → AreInUnits state
 in_units base state e u = λ k d h. units-all state.base state.live k d (subst (λ (b : ℕ). AreUnits b state.live) (sym e) u) h
 
+-- an empty region is in units
 pub opened-in_units : (base size max_blocks : ℕ) → AreInUnits (empty_region base size max_blocks)
 opened-in_units base size max_blocks = in_units base (empty_region base size max_blocks) refl tt
 
+-- placing keeps a region in units
 pub placed-in_units : (state : RegionState) (len : ℕ) → IsSound state → AreInUnits state → AreInUnits (after_place state len)
 unfolding after_place
 placed-in_units state len sound u =
     in_units state.base (after_place state len) (placed-base state len (place_answer state len))
     (placed-units state len (place_answer state len) sound (all-units state.base state.live u) refl)
 
+-- so does releasing
 pub released-in_units : (state : RegionState) (place : ℕ) → AreInUnits state → AreInUnits (after_release state place)
 unfolding after_release
 released-in_units state place u = in_units state.base (after_release state place) refl (filter-units state.base _ state.live (all-units state.base state.live u))
 
+-- and so does filling
 pub filled-in_units : (state : RegionState) (place : ℕ) (bytes : List ℕ) → AreInUnits state → AreInUnits (after_fill state place bytes)
 unfolding after_fill
 filled-in_units state place bytes u = in_units state.base (after_fill state place bytes) refl (fill-units state.base place bytes state.live (all-units state.base state.live u))

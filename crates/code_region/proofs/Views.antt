@@ -13,6 +13,7 @@ use Rattle.code_region.proofs.Apart.{AreApart-le, AreApart-at}
 abbrev pub moved : ℕ → Span → Span
 moved base span = record { start = base + span.start; len = span.len }
 
+-- the gaps between spans are those between the blocks that they stand for
 pub gaps-view : (base from limit : ℕ) (bytes : List ℕ) (spans : List Span) →
     gaps_between (base + from) (base + limit) (map span_of (map (block_of base bytes) spans)) ≡ map (moved base) (gaps_between from limit spans)
 gaps-view base from limit bytes [] =
@@ -25,6 +26,7 @@ gaps-view base from limit bytes (span ∷ spans) =
     let f : base + span.start + span.len ≡ base + (span.start + span.len) = omega arith in
     rw (e, f, rest) refl
 
+-- the gaps of a region are those between its spans
 pub gaps_of-view : (base max_blocks : ℕ) (bytes : List ℕ) (spans : List Span) →
     gaps_of (region_state_of base max_blocks bytes spans) ≡ map (moved base) (gaps_between 0 (length bytes) spans)
 unfolding gaps_of
@@ -33,12 +35,14 @@ gaps_of-view base max_blocks bytes spans =
     let e : base + 0 ≡ base = omega arith in
     subst P e (gaps-view base 0 (length bytes) bytes spans)
 
+-- the first gap with room is found alike at another base
 pub first_gap-moved : (base len : ℕ) (gaps : List Span) → first_gap len (map (moved base) gaps) ≡ option_map (moved base) (first_gap len gaps)
 first_gap-moved base len [] = refl
 first_gap-moved base len (gap ∷ gaps) =
     elim (nat_le len gap.len) as (λ b. cond b (Some (moved base gap)) (first_gap len (map (moved base) gaps)) ≡ option_map (moved base) (cond b (Some gap) (first_gap len gaps)))
     [ true ↦ refl | false ↦ first_gap-moved base len gaps ]
 
+-- and so is the longest gap
 pub longest-moved : (base : ℕ) (gaps : List Span) → longest (map (moved base) gaps) ≡ longest gaps
 longest-moved base [] = refl
 longest-moved base (gap ∷ gaps) = ap (λ n. max gap.len n) (longest-moved base gaps)
@@ -54,6 +58,7 @@ find-view base place from limit bytes (span ∷ spans) (suc i) apart h e =
     let other : base + span.start ≡ place → ⊥ = λ same. absurd (omega arith) in
     rw (ne_eqb (base + span.start) place other) (find-view base place (span.start + span.len) limit bytes spans i apart.2 (omega arith) e)
 
+-- no block is found at a place at which no span starts
 pub find-nowhere : (base place : ℕ) (bytes : List ℕ) (spans : List Span) → IsNowhere base place spans →
     find (λ block. nat_eq block.place place) (map (block_of base bytes) spans) ≡ None
 find-nowhere base place bytes [] none = refl
@@ -69,6 +74,7 @@ quiet-replicate bytes from n h quiet =
     get_or-take n (drop from bytes) k d lt ∙ get_or-drop from bytes k d ∙ get_or_default bytes (from + k) d 0 (omega arith) ∙
     quiet (from + k) (omega arith) (omega arith) ∙ sym (get_or-replicate n k int3 d lt))
 
+-- the image of a region is its bytes if those outside the spans are CC
 pub image-view : (base from : ℕ) (bytes : List ℕ) (spans : List Span) → AreApart from (length bytes) spans → IsQuietAround bytes from (length bytes) spans →
     image_between (base + from) (base + length bytes) (map (block_of base bytes) spans) ≡ drop from bytes
 image-view base from bytes [] apart quiet =
@@ -110,6 +116,7 @@ laid-view base from limit bytes (span ∷ spans) h apart =
     let l : length (take span.len (drop span.start bytes)) ≡ span.len = length-take-le span.len (drop span.start bytes) (omega (arith, length-drop span.start bytes)) in
     (omega arith, apart.1, l, subst (λ n. AreLaid n (base + limit) (map (block_of base bytes) spans)) e rest)
 
+-- spans that lie apart stand for a sound region
 pub sound-view : (base max_blocks : ℕ) (bytes : List ℕ) (spans : List Span) → AreApart 0 (length bytes) spans → IsSound (region_state_of base max_blocks bytes spans)
 sound-view base max_blocks bytes spans apart =
     let P : ℕ → Type 0 = λ n. AreLaid n (base + length bytes) (map (block_of base bytes) spans) in

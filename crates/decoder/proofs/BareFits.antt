@@ -507,6 +507,7 @@ known-of_row code row known at here =
     same_known known (known_of row)
     (sym here ∙ (ap (λ all. slice_get all code) (sym by_rule) ∙ (slice_get-map known_of table code ∙ ap (option_map known_of) at)))
 
+-- the stored flag of a row is the one that the row has
 pub known-bare : (row : Row) (known : BareRow) → known ≡ known_of row → known.bare ≡ row_is_bare row
 unfolding known_of
 known-bare row known e = ap (λ (k : BareRow). k.bare) e
@@ -527,6 +528,7 @@ front-of_drop [] (suc n) = refl
 front-of_drop (x ∷ xs) zero = refl
 front-of_drop (x ∷ xs) (suc n) = front-of_drop xs n
 
+-- the first of some bytes is a byte
 pub first-is_byte : (xs : List ℕ) (n : ℕ) → ((k : ℕ) → Fits w8 (get_or xs k 0)) → FirstIsByte (drop n xs)
 first-is_byte xs n h b e =
     let at : get_or xs n 0 ≡ b = get_or_from_slice_get xs n b 0 (front-of_drop xs n ∙ e) in

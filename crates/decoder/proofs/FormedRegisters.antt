@@ -21,9 +21,11 @@ use Rattle.row_meaning.specs.Meaning.{general_register, byte_register, vector, w
 use Rattle.plain_spelling.specs.Forms.{is_scale}
 use Rattle.opcode_rows.specs.Allowed.{is_named, is_named_if, has_numbers}
 
+-- a number below another tests as below it
 pub lt_true : (a b : ℕ) → a < b → nat_lt a b ≡ true
 lt_true a b h = grind (arith, h)
 
+-- two tests that hold hold together
 pub both : (a b : Bool) → a ≡ true → b ≡ true → (a && b) ≡ true
 both a b ha hb = rw (ha, hb)
 
@@ -59,6 +61,7 @@ pub record IsNumber (state : PrefixState) (file : File) (n : ℕ) : Type 0 where
   pub byte : file ≡ ByteFile → state.rex ≡ None → n < 8
   pub debug : file ≡ DebugFile → n < 8
 
+-- a register of a file with a number that the fields can hold is named
 pub register_named : (bits : Bits) (row : Row) (state : PrefixState) (file : File) (n : ℕ) → IsNumber state file n → is_named (register_of bits row state file n) ≡ true
 unfolding is_named register_of
 register_named bits row state ByteFile n h = byte_named state.rex n h.small (h.byte refl)
@@ -79,10 +82,12 @@ register_named bits row state VectorFile n h = vector_named row.l n h.small
 
 -- ---- numbers
 
+-- three bits with an extending bit are below 16
 pub extended_small : (b : Bool) (n : ℕ) → n < 8 → with_high_bit b n < 16
 extended_small true n h = omega arith
 extended_small false n h = omega arith
 
+-- and below 8 without it
 pub extended_low : (b : Bool) (n : ℕ) → b ≡ false → n < 8 → with_high_bit b n < 8
 extended_low true n e h = cc
 extended_low false n e h = omega arith
@@ -119,6 +124,7 @@ pub record IsAddress (m : Mem) : Type 0 where
   pub base : is_named_if m.base ≡ true
   pub index : is_named_if m.index ≡ true
 
+-- the registers of an address have numbers of their classes
 pub address_numbers : (m : Mem) → IsAddress m → has_numbers (MemOperand m) ≡ true
 unfolding has_numbers
 address_numbers m h = both _ _ h.scale (both _ _ h.base h.index)
@@ -160,6 +166,7 @@ unfolding sib_index is_named_if index_number
 sib_index_named asize state s h =
     if_named_if (with_high_bit (bit_x state) s.index == 4) None _ refl (general_named asize _ (extended_small (bit_x state) s.index h))
 
+-- a memory operand with a SIB is an address
 pub with_sib_address : (bits asize : Bits) (state : PrefixState) (index : Option Register) (m : ModRm) (s : Sib) (disp : List ℕ) → SibRange s → is_named_if index ≡ true → IsAddress (memory_with_sib bits asize state index m s disp)
 unfolding memory_with_sib
 with_sib_address bits asize state index m s disp r named =
@@ -188,12 +195,14 @@ unfolding memory_wide
 wide_address bits asize state m (Some s) next disp h r = with_sib_address bits asize state (sib_index asize state s) m s disp r (sib_index_named asize state s r.index)
 wide_address bits asize state m None next disp h r = if_address (m.mode3 == 0 && m.rm == 5) _ _ (alone_address bits asize next disp) (at_base_address bits asize state m disp h)
 
+-- so is each memory operand that ModRM names
 pub memory_address : (bits asize : Bits) (state : PrefixState) (m : ModRm) (sib : Option Sib) (next : ℕ) (disp : List ℕ) → m.rm < 8 → SibRangeIf sib → IsAddress (memory_of bits asize state m sib next disp)
 unfolding memory_of
 memory_address bits B16 state m sib next disp h r = memory_16_address m disp
 memory_address bits B32 state m sib next disp h r = wide_address bits B32 state m sib next disp h r
 memory_address bits B64 state m sib next disp h r = wide_address bits B64 state m sib next disp h r
 
+-- and an absolute one
 pub absolute_address : (asize : Bits) (disp : List ℕ) → IsAddress (memory_absolute asize disp)
 unfolding memory_absolute is_named_if
 absolute_address asize disp = record { scale = refl; base = refl; index = refl }

@@ -41,6 +41,7 @@ pub data WhyForbidden (given : ℕ) : Front → Type 0 where
   OpenAt15 : 15 ≤ given → WhyForbidden given Open
   KnownAt15 : (state : PrefixState) → 15 ≤ state.used → WhyForbidden given (Known state)
 
+-- why a front is forbidden within 15 bytes
 pub forbidden_is : (given : ℕ) (f : Front) → within_15 given f ≡ Forbidden → WhyForbidden given f
 unfolding within_15
 forbidden_is given Open h = open_case (nat_le 15 given) refl h

@@ -18,6 +18,7 @@ use Rattle.decoder.specs.Cells.{IsInCell, CellIs, cell_count}
 eqb_self : (n : ℕ) → (n == n) ≡ true
 eqb_self n = grind arith
 
+-- the kind of a row says whether it is a VEX row
 pub kind_is_vex : (row : Row) → is_vex row.kind ≡ is_vex_row row
 kind_is_vex row = by_kind row.kind
   where

@@ -63,6 +63,7 @@ pub record IsAtFront (table : List Row) (bits : Bits) (ip : ℕ) (bytes : List �
   pub short : n ≤ 15
   pub front : long_front bits bytes ≡ Known (state_of bits row spelling)
 
+-- an instruction that is read is spelled at the front of the bytes
 pub at_front : (table : List Row) (bits : Bits) (ip : ℕ) (bytes : List ℕ) (i : Instr) (n : ℕ) → ReadsAs table bits ip bytes i n → IsAtFront table bits ip bytes i n
 at_front table bits ip bytes i n h =
     let row = h.1.1.0 in
@@ -97,6 +98,7 @@ append_nil : (xs : List ℕ) → xs ++ [] ≡ xs
 append_nil [] = refl
 append_nil (x ∷ xs) = ap (λ ys. x ∷ ys) (append_nil xs)
 
+-- bytes that begin a spelling begin one of a row
 pub begun : (table : List Row) (bits : Bits) (ip : ℕ) (bytes : List ℕ) → BeginsSpelling table bits ip bytes → IsBegun table bits bytes
 begun table bits ip bytes h =
     let i : Instr = h.2.0 in
@@ -161,6 +163,7 @@ forbidden_begins bits table bytes Forbidden Never e short b =
     let e1 = forbidden-extends bits bytes b.goes_on.more e in let e2 = b.front in cc
 forbidden_begins bits table bytes (Known state) (KnownAt15 _ late) e short b = omega (arith, (known-used bits bytes state e).is_within)
 
+-- a front that is equal to a closed one is not open
 pub is_closed : (f g : Front) → f ≡ g → is_open g ≡ false → IsTrue (is_open f) → ⊥
 is_closed f g e closed open_ = let e2 = ap is_open e in cc
 

@@ -23,6 +23,7 @@ use Rattle.decoder.proofs.ReadingLaws.{reads, IsAtFront, at_front, IsBegun, begu
 
 -- ---- one row
 
+-- a row that reads nothing is late
 pub late_by_nothing : (bits : Bits) (row : Row) (bytes : List ℕ) → RowReadsNothing bits row bytes → RowIsLate bits row bytes
 late_by_nothing bits row bytes h s rest fit e = absurd (h s rest fit e)
 

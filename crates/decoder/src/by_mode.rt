@@ -7,7 +7,8 @@ ghost use Rattle.opcode_rows.specs.Reading.{IsRead};
 ghost use Rattle.decoder.specs.Answer.{reading_of, IsOnlyReading};
 
 use crate::DecodeError;
-use crate::reading::{decode_on, decode_on_into};
+use crate::reading::read_uncounted;
+use modrm_sib::UNREAD;
 use std::marker::Brand;
 use std::sync::ledger::Blank;
 use x86_values::{Bits, Decoded};
@@ -19,10 +20,14 @@ pub fn decode_in(bits: Bits, ip: u64, bytes: &[u8]) -> Result<Decoded, DecodeErr
     ensures form { IfOk result (λ d. IsTrue (is_well_formed d.instr)) }
     ensures alone { IfOk result (λ d. IsOnlyReading bits ip bytes.now d) }
 {
-    decode_on::<Brand>(Blank::new(1), bits, ip, bytes)
+    let mut decoded = UNREAD;
+    match decode_onto(bits, ip, bytes, &mut decoded) {
+        Ok(()) => Ok(decoded),
+        Err(error) => Err(error),
+    }
 }
 
-/// Reads as [`decode_in`], and writes the instruction to `out`. After an error nothing is said of what stands there.
+/// Reads as [`decode_in`], and writes the instruction to `out`. After an error `out` holds no instruction.
 #[inline(always)]
 pub fn decode_onto(bits: Bits, ip: u64, bytes: &[u8], out: &mut Decoded) -> Result<(), DecodeError>
     ensures reading { IsRead bits ip bytes.now (reading_of (answer_in result out.new)) }
@@ -30,5 +35,5 @@ pub fn decode_onto(bits: Bits, ip: u64, bytes: &[u8], out: &mut Decoded) -> Resu
     ensures form { IfOk result (λ _. IsTrue (is_well_formed out.new.instr)) }
     ensures alone { IfOk result (λ _. IsOnlyReading bits ip bytes.now out.new) }
 {
-    decode_on_into::<Brand>(Blank::new(1), bits, ip, bytes, out)
+    read_uncounted::<Brand>(Blank::new(1), bits, ip, bytes, out)
 }

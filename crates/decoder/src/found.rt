@@ -18,7 +18,7 @@ use crate::cell::LONGEST;
 use handler_tables::find;
 use instruction_parts::PrefixState;
 use instruction_parts::sizes::state_size;
-use modrm_sib::{read_known_into, read_row_into};
+use modrm_sib::{read_fitting_into, read_row_into};
 use opcode_rows::{ROWS, row};
 use prefixes::mode_of;
 use std::sync::ledger::Ledger;
@@ -121,7 +121,7 @@ fn read_bare<L: Ledger>(
     let row = row(code, steps);
     let size = state_size(bits, &row, state);
     let immediates = immediates_at(size, known);
-    match read_known_into(bits, ip, state, code, &row, size, immediates, bytes, out) {
+    match read_fitting_into(bits, ip, state, code, &row, size, immediates, bytes, out) {
         Some(()) => Some(()),
         None => None,
     }
@@ -146,7 +146,7 @@ fn read_asked<L: Ledger>(
     ensures step { steps.new ≡ steps.old + 1 }
 {
     let row = row(code, steps);
-    match read_row_into(bits, ip, state, code, &row, None, bytes, out) {
+    match read_row_into(bits, ip, state, code, &row, bytes, out) {
         Ok(()) => {
             if out.len as usize <= LONGEST {
                 return Some(());

@@ -12,12 +12,12 @@ ghost use Rattle.decoder.specs.Answer.{reading_of, IsOnlyReading};
 ghost use Rattle.decoder.specs.Cells.{cell_count, most_steps};
 
 use crate::DecodeError;
+use crate::by_mode::decode_onto;
 use crate::cell::{cell_of, error_of};
 use crate::found::read_found;
 use instruction_parts::PrefixState;
 use modrm_sib::UNREAD;
 use prefixes::{NO_FRONT, PrefixError, mode_of, read_front_into};
-use std::marker::Brand;
 use std::sync::ledger::{Blank, Ledger};
 use step_count::Steps;
 use x86_values::{Bits, Decoded, wrap};
@@ -40,39 +40,16 @@ pub fn decode<const BITS: u32>(ip: u64, bytes: &[u8]) -> Result<Decoded, DecodeE
     ensures alone { IfOk result (λ d. IsOnlyReading (mode_of BITS) ip bytes.now d) }
 {
     let mut decoded = UNREAD;
-    match decode_on_into::<Brand>(Blank::new(1), mode_of::<BITS>(), ip, bytes, &mut decoded) {
+    match decode_onto(mode_of::<BITS>(), ip, bytes, &mut decoded) {
         Ok(()) => Ok(decoded),
         Err(error) => Err(error),
     }
 }
 
-/// Reads the instruction at the front of some bytes, in a mode that is a value, on a count of its own.
+/// Reads the instruction at the front of some bytes with a counter of its own, and writes it to `out`. After an error `out` holds no instruction.
 // A ledger is picked only at a call without const parameters, so the mode is a value here.
-#[inline]
-pub fn decode_on<L: Ledger>(
-    blank: Blank,
-    bits: Bits,
-    ip: u64,
-    bytes: &[u8],
-) -> Result<Decoded, DecodeError>
-    requires name { blank.name ≡ L.name }
-    requires parts { blank.parts ≡ L.parts }
-    requires some { 0 < L.parts }
-    ensures reading { IsRead bits ip bytes.now (reading_of result) }
-    ensures length { IfOk result (λ d. (0 < d.len) × (d.len ≤ 15) × (d.len ≤ length bytes.now)) }
-    ensures form { IfOk result (λ d. IsTrue (is_well_formed d.instr)) }
-    ensures alone { IfOk result (λ d. IsOnlyReading bits ip bytes.now d) }
-{
-    let mut decoded = UNREAD;
-    match decode_on_into::<L>(blank, bits, ip, bytes, &mut decoded) {
-        Ok(()) => Ok(decoded),
-        Err(error) => Err(error),
-    }
-}
-
-/// Reads the instruction at the front of some bytes on a count of its own, and writes it to `out`. After an error nothing is said of `out`.
 #[inline(always)]
-pub(crate) fn decode_on_into<L: Ledger>(
+pub(crate) fn read_uncounted<L: Ledger>(
     blank: Blank,
     bits: Bits,
     ip: u64,
@@ -90,9 +67,9 @@ pub(crate) fn decode_on_into<L: Ledger>(
 {
     let mut steps = Steps::<L>::open(blank);
     match bits {
-        Bits::B16 => decode_into::<16, L>(ip, bytes, out, &mut steps),
-        Bits::B32 => decode_into::<32, L>(ip, bytes, out, &mut steps),
-        Bits::B64 => decode_into::<64, L>(ip, bytes, out, &mut steps),
+        Bits::B16 => read_counted::<16, L>(ip, bytes, out, &mut steps),
+        Bits::B32 => read_counted::<32, L>(ip, bytes, out, &mut steps),
+        Bits::B64 => read_counted::<64, L>(ip, bytes, out, &mut steps),
     }
 }
 
@@ -113,7 +90,7 @@ pub fn decode_counted<const BITS: u32, L: Ledger>(
     ensures most { steps.new ≤ steps.old + most_steps (front_of (mode_of BITS) bytes.now) }
 {
     let mut decoded = UNREAD;
-    match decode_into::<BITS, L>(ip, bytes, &mut decoded, steps) {
+    match read_counted::<BITS, L>(ip, bytes, &mut decoded, steps) {
         Ok(()) => Ok(decoded),
         Err(error) => Err(error),
     }
@@ -121,7 +98,7 @@ pub fn decode_counted<const BITS: u32, L: Ledger>(
 
 /// Reads and counts as [`decode_counted`], and writes the instruction to `out`: as a value it would be copied at each call on the way.
 #[inline(never)]
-fn decode_into<const BITS: u32, L: Ledger>(
+fn read_counted<const BITS: u32, L: Ledger>(
     ip: u64,
     bytes: &[u8],
     out: &mut Decoded,

@@ -45,10 +45,12 @@ given bits ip row i s = record {
   four = s.four;
 }
 
+-- the front whose bytes are written is the plain front
 pub front-is : (bits : Bits) (ip : ℕ) (row : Row) (i : Instr) → Suited bits ip row i → byte_front bits row i ≡ plain_front_of bits row i
 front-is bits ip row i s =
     let g = given bits ip row i s in byte_front-plain bits row i g.is_sound g.four g.suits.registers
 
+-- its VEX has fields in range
 pub vex-range : (bits : Bits) (ip : ℕ) (row : Row) (i : Instr) → Suited bits ip row i → vex_in_range (plain_front_of bits row i).vex ≡ true
 vex-range bits ip row i s =
     let g = given bits ip row i s in plain_front-range bits row i g.is_sound g.four g.suits.registers
@@ -67,18 +69,23 @@ pub record Written (bits : Bits) (ip : ℕ) (row : Row) (i : Instr) (parts : Pla
   pub at : parts.ip ≡ ip
   pub short : parts.len ≤ 15
 
+-- the state of the written parts is the plain front
 pub state-is : (bits : Bits) (ip : ℕ) (row : Row) (i : Instr) (parts : PlainParts) → Written bits ip row i parts → parts.state ≡ plain_front_of bits row i
 state-is bits ip row i parts w = w.parts_are.state ∙ front-is bits ip row i w.suited
 
+-- the written VEX has fields in range
 pub written-vex : (bits : Bits) (ip : ℕ) (row : Row) (i : Instr) (parts : PlainParts) → Written bits ip row i parts → vex_in_range parts.state.vex ≡ true
 written-vex bits ip row i parts w = subst (λ (f : PrefixState). vex_in_range f.vex ≡ true) (sym (state-is bits ip row i parts w)) (vex-range bits ip row i w.suited)
 
+-- so has the written ModRM
 pub written-modrm : (bits : Bits) (ip : ℕ) (row : Row) (i : Instr) (parts : PlainParts) → Written bits ip row i parts → modrm_in_range parts.addressing.modrm ≡ true
 written-modrm bits ip row i parts w = rw w.parts_are.modrm (modrm_fits bits row i (given bits ip row i w.suited).is_sound)
 
+-- and the written SIB
 pub written-sib : (bits : Bits) (ip : ℕ) (row : Row) (i : Instr) (parts : PlainParts) → Written bits ip row i parts → sib_in_range parts.addressing.sib ≡ true
 written-sib bits ip row i parts w = rw w.parts_are.sib (tail_fits bits ip row i (given bits ip row i w.suited)).sib_range
 
+-- each operand's number is below 16
 pub written-numbers : (bits : Bits) (ip : ℕ) (row : Row) (i : Instr) (parts : PlainParts) → Written bits ip row i parts → (n : ℕ) → n < 4 → operand_number (operand_at i n) < 16
 written-numbers bits ip row i parts w = number-below bits row i (given bits ip row i w.suited).suits.registers
 
@@ -95,6 +102,7 @@ unfolding plain_len immediates_bytes
 len-is bits row i =
     omega (arith, modrm_count (plain_modrm bits row i), sib_count (plain_sib_of bits row i))
 
+-- the front leaves room for the rest within 15 bytes
 pub written-room : (bits : Bits) (ip : ℕ) (row : Row) (i : Instr) (parts : PlainParts) (front : List ℕ) → Written bits ip row i parts → front ≡ front_written row parts.state
     → length front + tail_count row i parts ≤ 15
 written-room bits ip row i parts front w e =
@@ -110,6 +118,7 @@ tail-is bits ip row i parts w =
     let next : parts.next ≡ plain_next bits ip row i = w.parts_are.next ∙ ap (λ (x : ℕ). plain_next bits x row i) w.at in
     rw (state-is bits ip row i parts w, w.parts_are.modrm, w.parts_are.sib, w.parts_are.size, next) refl
 
+-- the front and what follows it are the bytes of the plain spelling
 pub written-bytes : (bits : Bits) (ip : ℕ) (row : Row) (i : Instr) (parts : PlainParts) (front : List ℕ) → Written bits ip row i parts → front ≡ front_written row parts.state
     → front ++ plain_tail_bytes row i parts ≡ bytes_of row (plain_spelling bits ip row i)
 written-bytes bits ip row i parts front w e =

@@ -22,14 +22,17 @@ use Rattle.encoder.proofs.OverTable.{written_table, none_fails, shortest}
 
 -- ---- the row
 
+-- a code without a row fails condition 1
 pub without_row : (bits : Bits) (ip : ℕ) (i : Instr) → slice_get table i.code.0 ≡ None → Err cause.Row ≡ encoding bits ip i
 unfolding encoding
 without_row bits ip i at = rw at refl
 
+-- the encoding of a code with a row is that by the row
 pub by_row : (bits : Bits) (ip : ℕ) (row : Row) (i : Instr) → slice_get table i.code.0 ≡ Some row → encoded_by (failure bits (modulo_width bits ip) row i) (bytes_of row (plain_spelling bits (modulo_width bits ip) row i)) ≡ encoding bits ip i
 unfolding encoding
 by_row bits ip row i at = rw at refl
 
+-- a row that the mode does not have fails condition 1
 pub row_fails : (bits : Bits) (ip : ℕ) (row : Row) (i : Instr) → exists_in bits row ≡ false → failure bits ip row i ≡ Some cause.Row
 unfolding failure
 row_fails bits ip row i h = rw h refl
@@ -47,14 +50,17 @@ without_mode bits ip row i there none =
 
 -- ---- the other conditions
 
+-- the first failing one of the conditions 2 to 9 is the cause
 pub tail_fails : (bits : Bits) (ip : ℕ) (row : Row) (i : Instr) (why : NoSpelling) → exists_in bits row ≡ true → first_failed_condition bits ip row i ≡ Some why → failure bits ip row i ≡ Some why
 unfolding failure
 tail_fails bits ip row i why there h = rw (there, h) refl
 
+-- more than 15 bytes fail condition 10
 pub length_fails : (bits : Bits) (ip : ℕ) (row : Row) (i : Instr) → exists_in bits row ≡ true → first_failed_condition bits ip row i ≡ None → 15 < plain_len bits row i → failure bits ip row i ≡ Some cause.Length
 unfolding failure
 length_fails bits ip row i there h long = rw (there, h, lt-leb (plain_len bits row i) 15 long) refl
 
+-- without a failing condition there is no cause
 pub nothing_fails : (bits : Bits) (ip : ℕ) (row : Row) (i : Instr) → exists_in bits row ≡ true → first_failed_condition bits ip row i ≡ None → plain_len bits row i ≤ 15 → failure bits ip row i ≡ None
 unfolding failure
 nothing_fails bits ip row i there h short = rw (there, h, le-leb (plain_len bits row i) 15 short) refl
@@ -80,6 +86,7 @@ encoding_is : (bits : Bits) (ip : ℕ) (i : Instr) → encoding bits ip i ≡ en
 unfolding encoding
 encoding_is bits ip i = refl
 
+-- the bytes of an encoding are the plain spelling
 pub plain_bytes_are : (bits : Bits) (ip : ℕ) (i : Instr) (bytes : List ℕ) → length i.ops ≡ 4 → Ok bytes ≡ encoding bits ip i → IsPlainlySpelled table bits (modulo_width bits ip) bytes i
 plain_bytes_are bits ip i bytes four h =
     let row = slice_get table i.code.0 in

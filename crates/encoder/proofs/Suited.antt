@@ -13,6 +13,7 @@ use Rattle.opcode_rows.specs.Table.{table}
 use Rattle.encoder.specs.Encoding.{encoding}
 use Rattle.encoder.proofs.Causes.{by_row}
 
+-- an instruction that suits its row is encoded unless it is too long
 pub suits-encoded : (bits : Bits) (ip : ℕ) (row : Row) (i : Instr) → slice_get table i.code.0 ≡ Some row → Suits bits (modulo_width bits ip) row i
     → plain_len bits row i ≤ 15 → encoding bits ip i ≡ Ok (bytes_of row (plain_spelling bits (modulo_width bits ip) row i))
 suits-encoded bits ip row i at suits short =

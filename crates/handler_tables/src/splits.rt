@@ -41,7 +41,7 @@ pub(crate) fn field_of<const BITS: u32>(
     }
 }
 
-/// The number of the field by which a node of three entries splits: mostly the mode or the operand size, which are told before the others.
+/// The number of the field by which a node of three entries splits: mostly the mode or the operand size, which are tested before the others.
 #[inline(always)]
 #[tactic(auto, unfolding(opcode_rows::specs::UniqueSpelling::FieldsOf::fields_of))]
 pub(crate) fn size_field_of<const BITS: u32>(

@@ -92,7 +92,7 @@ fn along<const BITS: u32, const N: usize, L: Ledger>(
     node.next(field_in::<BITS, N>(split, state, byte), steps)
 }
 
-/// The root where a byte stands behind the opcode byte, and the root where none does.
+/// The root where a byte follows the opcode byte, and the root where none does.
 fn root_number(byte: Option<u8>) -> u16
     ensures { result ≡ root_of byte }
 {

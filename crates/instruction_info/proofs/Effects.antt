@@ -23,6 +23,7 @@ take-few (suc n) (x ∷ xs) = omega (arith, take-few n xs)
 pub part-of : {X : Type 0} (list all : List X) (first count : ℕ) → list ≡ all → take (first + count - first) (drop first list) ≡ take count (drop first all)
 part-of list all first count same = let count_is : first + count - first ≡ count = omega arith in rw (count_is, same) refl
 
+-- a part of a list has no more items than its count
 pub part-few : {X : Type 0} (list : List X) (first count most : ℕ) → count ≤ most → length (take (first + count - first) (drop first list)) ≤ most
 part-few list first count most few = omega (arith, few, take-few (first + count - first) (drop first list))
 
@@ -35,9 +36,11 @@ indexes_within : list_all is_index indexes ≡ true
 unfolding indexes
 indexes_within = refl
 
+-- each index leads to a line of effects
 pub index-within : (code k : ℕ) → slice_get indexes code ≡ Some k → k < EFFECT_COUNT
 index-within code k at = ltb-true k EFFECT_COUNT (all-at is_index indexes code k indexes_within at)
 
+-- the effect of a code is the line that its index leads to
 pub effect-known : (code k : ℕ) (e : Effect) → slice_get indexes code ≡ Some k → slice_get effects k ≡ Some e → e ≡ effect_of code
 unfolding effect_of
 effect-known code k e at here =
@@ -49,6 +52,7 @@ effects_fit : list_all effect_fits effects ≡ true
 unfolding effects effect_fits
 effects_fit = refl
 
+-- each line of effects lies inside the tables
 pub effect-fits : (k : ℕ) (e : Effect) → slice_get effects k ≡ Some e → effect_fits e ≡ true
 effect-fits k e at = all-at effect_fits effects k e effects_fit at
 
@@ -65,6 +69,7 @@ memory_fits e = memory_lies e && nat_le e.memories 3
 abbrev rest_fits : Effect → Bool
 rest_fits e = nat_le e.registers 26 && memory_fits e
 
+-- its registers lie inside theirs
 pub registers-lie : (e : Effect) → effect_fits e ≡ true → e.first_register + e.registers ≤ REGISTER_COUNT
 unfolding effect_fits
 registers-lie e h = leb-true (e.first_register + e.registers) REGISTER_COUNT (and_parts (registers_lie e) (rest_fits e) h).0
@@ -73,14 +78,17 @@ rest-fits : (e : Effect) → effect_fits e ≡ true → rest_fits e ≡ true
 unfolding effect_fits
 rest-fits e h = (and_parts (registers_lie e) (rest_fits e) h).1
 
+-- they are at most 26
 pub registers-few : (e : Effect) → effect_fits e ≡ true → e.registers ≤ 26
 registers-few e h = leb-true e.registers 26 (and_parts (nat_le e.registers 26) (memory_fits e) (rest-fits e h)).0
 
 memory-fits : (e : Effect) → effect_fits e ≡ true → memory_fits e ≡ true
 memory-fits e h = (and_parts (nat_le e.registers 26) (memory_fits e) (rest-fits e h)).1
 
+-- its memory lies inside its table
 pub memory-lies : (e : Effect) → effect_fits e ≡ true → e.first_memory + e.memories ≤ MEMORY_COUNT
 memory-lies e h = leb-true (e.first_memory + e.memories) MEMORY_COUNT (and_parts (memory_lies e) (nat_le e.memories 3) (memory-fits e h)).0
 
+-- and is used in at most 3 ways
 pub memory-few : (e : Effect) → effect_fits e ≡ true → e.memories ≤ 3
 memory-few e h = leb-true e.memories 3 (and_parts (memory_lies e) (nat_le e.memories 3) (memory-fits e h)).1

@@ -33,6 +33,7 @@ passes-or p [] d (suc k) h hd = hd
 passes-or p (x ∷ xs) d zero h hd = (and_parts (p x) (list_all p xs) h).0
 passes-or p (x ∷ xs) d (suc k) h hd = passes-or p xs d k (and_parts (p x) (list_all p xs) h).1 hd
 
+-- what holds of each line of effects and of no effect holds of every code
 pub each_effect : (p : Effect → Bool) → list_all p effects ≡ true → p no_effect ≡ true → (code : ℕ) → p (effect_of code) ≡ true
 unfolding effect_of
 each_effect p h hd code = passes-or p effects no_effect (unwrap_or (slice_get indexes code) 0) h hd
@@ -65,18 +66,22 @@ all_keep_changed : list_all keeps_changed effects ≡ true
 unfolding effects
 all_keep_changed = refl
 
+-- cleared flags are written
 pub cleared-written : (code : ℕ) → bit_and (flags_cleared code) (flags_written code) ≡ flags_cleared code
 unfolding flags_cleared flags_written
 cleared-written code = eqb-true _ _ (each_effect clears_written all_clear_written refl code)
 
+-- set flags are written
 pub set-written : (code : ℕ) → bit_and (flags_set code) (flags_written code) ≡ flags_set code
 unfolding flags_set flags_written
 set-written code = eqb-true _ _ (each_effect sets_written all_set_written refl code)
 
+-- undefined flags are not written
 pub undefined-apart : (code : ℕ) → bit_and (flags_undefined code) (flags_written code) ≡ 0
 unfolding flags_undefined flags_written
 undefined-apart code = eqb-true _ _ (each_effect is_apart all_are_apart refl code)
 
+-- flags that may be kept are written or undefined
 pub kept-changed : (code : ℕ) → bit_and (flags_kept code) (bit_or (flags_written code) (flags_undefined code)) ≡ flags_kept code
 unfolding flags_kept flags_undefined flags_written
 kept-changed code = eqb-true _ _ (each_effect keeps_changed all_keep_changed refl code)
@@ -180,6 +185,7 @@ row-passes code row at =
 
 -- ---- conditions
 
+-- a conditional instruction reads the flags of its condition
 pub condition-read : (code flags : ℕ) (row : Row) → slice_get table code ≡ Some row → tested_flags row ≡ Some flags → flags_read code ≡ flags
 unfolding flags_read
 condition-read code flags row at tested =
@@ -197,11 +203,13 @@ pushes_if-true false system pushes h calls user = cc
 pushes_if-true true true pushes h calls user = cc
 pushes_if-true true false pushes h calls user = h
 
+-- a call pushes, unless it is a system call
 pub call-pushes : (code : ℕ) (row : Row) → slice_get table code ≡ Some row → IsTrue (is_calling (flow_of code)) → is_system_call (name_of code) ≡ false → IsTrue (list_any is_push (implied_memory_of code))
 unfolding implied_memory_of
 call-pushes code row at calls user =
     pushes_if-true _ _ _ (row-passes code row at).call (ap (λ f. is_calling f) (sym (flow-row code row at)) ∙ calls) user
 
+-- a return pops, unless it is a return from a system call
 pub return-pops : (code : ℕ) (row : Row) → slice_get table code ≡ Some row → IsTrue (is_returning (flow_of code)) → is_system_return (name_of code) ≡ false → IsTrue (list_any is_pop (implied_memory_of code))
 unfolding implied_memory_of
 return-pops code row at returns user =
@@ -215,6 +223,7 @@ same-true true false h = cc
 same-true false true h = cc
 same-true false false h = refl
 
+-- the string instructions are those that a repeat prefix repeats
 pub string-repeats : (code : ℕ) (row : Row) → slice_get table code ≡ Some row → (effect_of code).repeats ≡ is_string_row row
 string-repeats code row at = same-true (effect_of code).repeats (is_string_row row) (row-passes code row at).string
 
@@ -233,6 +242,7 @@ passes-first p (x ∷ xs) zero code h lt lt' = absurd (omega arith)
 passes-first p (x ∷ xs) (suc n) zero h lt lt' = (and_parts (p x) (list_all p (take n xs)) h).0
 passes-first p (x ∷ xs) (suc n) (suc code) h lt lt' = passes-first p xs n code (and_parts (p x) (list_all p (take n xs)) h).1 (omega arith) (omega arith)
 
+-- no row of version 1 needs a feature of the added rows
 pub version1-needs : (code : ℕ) → code < VERSION1_ROWS → bit_and (features_of code) added_features ≡ 0
 unfolding features_of effect_of
 version1-needs code lt =
@@ -248,6 +258,7 @@ repeated-true bits i row at string repeat =
 abbrev counter_if : Bits → Instr → Bool → List RegisterUse
 counter_if bits i b = if b then counter bits i ∷ [] else []
 
+-- a repeated string instruction uses its counter last
 pub counter-last : (bits : Bits) (i : Instr) (row : Row) → slice_get table i.code.0 ≡ Some row → IsTrue (is_string_row row) → IsTrue (has_repeat i.rep)
     → (front : List RegisterUse) × (all_registers bits i ≡ front ++ counter bits i ∷ [])
 unfolding all_registers

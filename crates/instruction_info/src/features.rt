@@ -92,7 +92,7 @@ impl Flags for Features {
 
 /// The features that the manual's page of a code below `ROWS` names, none for what each processor has.
 ///
-/// Two forms of a row can need different ones: VBROADCASTSS and VBROADCASTSD from memory need AVX, which is told, and from a register AVX2, which
+/// Two forms of a row can need different ones: VBROADCASTSS and VBROADCASTSD from memory need AVX, which is reported, and from a register AVX2, which
 /// `needed_features` tells.
 pub fn features_of(code: Code) -> Features
     requires { code.0 < ROWS }

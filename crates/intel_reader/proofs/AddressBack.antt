@@ -43,6 +43,7 @@ of_no_bytes B64 x h =
       | inr high ↦ (let le = leb-true (2 * 2 ^ 64) (2 * x + 1) high in omega arith)
     ]
 
+-- a sign-extended number of a width is below 2 to that width
 pub of_width : (n w x : ℕ) → is_extended_of n w x ≡ true → x < 2 ^ w
 unfolding is_extended_of
 of_width n w x h = ltb-true x (2 ^ w) (and_parts (nat_lt x (2 ^ w)) _ h).0

@@ -36,10 +36,12 @@ use Rattle.intel_reader.proofs.PlainFacts.{plain_is_ready}
 
 -- ---- the conditions, on what is made of the words
 
+-- a candidate is an instruction of the code that it is made for
 pub code_is : (bits : Bits) (row : Row) (code : Code) (words : IntelWords) (asize : Option Bits) (size : DispSize) → (candidate bits row code words asize size).code ≡ code
 unfolding candidate
 code_is bits row code words asize size = refl
 
+-- the words of a text, made into an instruction of a row, give each operand that the row needs
 pub made_given : (bits : Bits) (ip : ℕ) (text : List ℕ) (b : Assembly) (row : Row) (code : Code) (words : IntelWords) (asize : Option Bits) (size : DispSize) → IsCandidate bits ip text b → slice_get table code.0 ≡ Some row
     → candidate bits row code words asize size ≡ b.instr → Given bits (modulo_width bits ip) row (candidate bits row code words asize size)
 made_given bits ip text b row code words asize size k at e =
@@ -47,6 +49,7 @@ made_given bits ip text b row code words asize size k at e =
     let there : slice_get table b.instr.code.0 ≡ Some row = ap (slice_get table) same ∙ at in
     subst (λ (i : Instr). Given bits (modulo_width bits ip) row i) (sym e) (plain_is_ready bits (modulo_width bits ip) b.bytes row b.instr k.spelled there).given
 
+-- operand n of a candidate is made from word n
 pub made_at : (bits : Bits) (row : Row) (code : Code) (words : IntelWords) (asize : Option Bits) (size : DispSize) (n : ℕ) → n < 4
     → operand_at (candidate bits row code words asize size) n ≡ operand_from (is_near_at row n) (unwrap_or asize bits) size (text_at words n)
 unfolding candidate

@@ -32,11 +32,13 @@ use Rattle.intel_reader.proofs.OperandFacts.{immediate_not_near, near_is_near, f
 
 -- ---- what the conditions say of an operand
 
+-- an operand of an instruction of a row is of a variant that the row's kind allows
 pub variant_at : (bits : Bits) (ip : ℕ) (row : Row) (i : Instr) (n : ℕ) (op : Operand) → Given bits ip row i → n < 4 → operand_at i n ≡ op → is_variant_of row.place (method_of (kind_at row n)) op ≡ true
 unfolding kind_suits
 variant_at bits ip row i n op g below e =
     subst (λ (x : Operand). is_variant_of row.place (method_of (kind_at row n)) x ≡ true) e (each-at (kind_suits row i) n below g.suits.kinds)
 
+-- an immediate of such an instruction fits its place
 pub immediate_at : (bits : Bits) (ip : ℕ) (row : Row) (i : Instr) (n : ℕ) (op : Operand) → Given bits ip row i → n < 4 → operand_at i n ≡ op
     → immediate_suits_how (plain_size bits row) (method_of (kind_at row n)) (immediate_bytes (plain_size bits row) (kind_at row n)) op ≡ true
 unfolding immediate_suits
@@ -50,6 +52,7 @@ pub record AddressAt (i : Instr) (m : Mem) : Type 0 where
   pub size : i.asize ≡ Some a
   pub is : AddressIs a m
 
+-- and a memory operand its address size
 pub address_at : (bits : Bits) (ip : ℕ) (row : Row) (i : Instr) (n : ℕ) (m : Mem) → Given bits ip row i → n < 4 → operand_at i n ≡ MemOperand m → AddressAt i m
 address_at bits ip row i n m g below e =
     let at = memory_at bits ip row i n m g below e in
@@ -91,6 +94,7 @@ by_operand bits ip row i n size (MemOperand m) g below sized e =
     ap (λ (x : Mem). MemOperand x)
     (ap (λ (a : Bits). address_from a size (inside_of a m)) text ∙ ap (λ (z : DispSize). address_from at.a z (inside_of at.a m)) same ∙ address_back at.a m at.is)
 
+-- an operand that was printed is made again from its words
 pub operand_back : (bits : Bits) (ip : ℕ) (row : Row) (i : Instr) (n : ℕ) (size : DispSize) → Given bits ip row i → n < 4 → HasSize size i
     → operand_from (is_near_at row n) (text_address_size bits i) size (nth_of bits row i n) ≡ operand_at i n
 operand_back bits ip row i n size g below sized = by_operand bits ip row i n size (operand_at i n) g below sized refl

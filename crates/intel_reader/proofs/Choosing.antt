@@ -35,12 +35,15 @@ use Rattle.intel_reader.proofs.PlainFacts.{plain_is_ready, row_there, size_there
 
 -- ---- one instruction
 
+-- assemblies with equal parts are equal
 pub same_assembly : (i j : Instr) (bs cs : List ℕ) → i ≡ j → bs ≡ cs → (let a : Assembly = record { instr = i; bytes = bs } in let b : Assembly = record { instr = j; bytes = cs } in a ≡ b)
 same_assembly i j bs cs ei eb = cc
 
+-- a candidate's bytes are the plain spelling of its instruction
 pub spelled_as : (bits : Bits) (ip : ℕ) (text : List ℕ) (b : Assembly) (i : Instr) → IsCandidate bits ip text b → i ≡ b.instr → IsPlainlySpelled table bits (modulo_width bits ip) b.bytes i
 spelled_as bits ip text b i k e = subst (λ (x : Instr). IsPlainlySpelled table bits (modulo_width bits ip) b.bytes x) (sym e) k.spelled
 
+-- and that instruction is well formed
 pub well_of : (bits : Bits) (ip : ℕ) (text : List ℕ) (b : Assembly) (i : Instr) → IsCandidate bits ip text b → i ≡ b.instr → is_well_formed i ≡ true
 well_of bits ip text b i k e =
     let there = row_there bits (modulo_width bits ip) b.bytes b.instr k.spelled in
@@ -78,6 +81,7 @@ other_name bits name word i h e =
     let other = (or_parts (bytes_eq name word) (is_counter_jump name) h).0 in
     cc
 
+-- the test of a row's name, as the reader computes it
 pub name_test : (name word bytes : List ℕ) (x y : Bool) → bytes ≡ name → x ≡ bytes_eq bytes word → x ≡ false → y ≡ is_counter_jump bytes → y ≡ (bytes_eq name word || is_counter_jump name)
 name_test name word bytes x y e h f k =
     let no : bytes_eq name word ≡ false = ap (λ (z : List ℕ). bytes_eq z word) (sym e) ∙ sym h ∙ f in
@@ -90,6 +94,7 @@ pub record IsPrinted (bits : Bits) (text : List ℕ) (row : Row) (i : Instr) : T
   pub printable : IsTrue (is_printable bits row (name_of i.code.0) i)
   pub layout : bracket_layout Intel bits row (name_of i.code.0) i ≡ text
 
+-- what is known of a candidate's text
 pub printed_facts : (bits : Bits) (ip : ℕ) (text : List ℕ) (b : Assembly) (row : Row) → IsCandidate bits ip text b → slice_get table b.instr.code.0 ≡ Some row → IsPrinted bits text row b.instr
 unfolding intel_text text_of
 printed_facts bits ip text b row k at =
@@ -106,11 +111,13 @@ row_of_candidate bits ip text b k = (k.spelled.row, k.spelled.row_is)
 
 -- ---- all candidates
 
+-- a choice that leads all candidates is the first of the shortest
 pub first_from : (bits : Bits) (ip : ℕ) (text : List ℕ) (best : Option Found) → IsHeld bits ip text best → ((b : Assembly) → IsCandidate bits ip text b → LeadsChoice best b)
     → IfSome best (λ f. IsFirst bits ip text (assembly_of f))
 first_from bits ip text None held led = tt
 first_from bits ip text (Some f) held led = record { candidate = held; first = λ b k. led b k }
 
+-- without a choice no instruction has the text
 pub none_from : (bits : Bits) (ip : ℕ) (text : List ℕ) (best : Option Found) → ((b : Assembly) → IsCandidate bits ip text b → LeadsChoice best b) → IsNone best → IsNoText bits ip text
 none_from bits ip text None led e = λ a k. led a k
 none_from bits ip text (Some f) led e = λ a k. impossible e
@@ -126,15 +133,18 @@ length-order : length order ≡ ROWS
 unfolding order
 length-order = refl
 
+-- each index of the order is that of a row
 pub index_below : (k x : ℕ) → slice_get order k ≡ Some x → k < ROWS
 index_below k x h = omega (some_below order k x h, length-order, arith)
 
+-- a candidate's code is that of a row
 pub code_below : (bits : Bits) (ip : ℕ) (text : List ℕ) (b : Assembly) → IsCandidate bits ip text b → b.instr.code.0 < ROWS
 code_below bits ip text b k = (row_there bits (modulo_width bits ip) b.bytes b.instr k.spelled).2.below
 
 same_index : (o : Option ℕ) (x y : ℕ) → o ≡ Some x → o ≡ Some y → x ≡ y
 same_index o x y e f = cc
 
+-- an index of the order has one code
 pub code_at_index : (k x y : ℕ) → slice_get order k ≡ Some x → slice_get order k ≡ Some y → x ≡ y
 code_at_index k x y e f = same_index (slice_get order k) x y e f
 
@@ -172,6 +182,7 @@ index_led bits ip text led after b index k p earlier here lt at = elim (last_or_
 
 -- ---- all names
 
+-- the choice among the rows of a name and then among the others is the choice among all
 pub held_after : (bits : Bits) (ip : ℕ) (text : List ℕ) (named last : Option Found) → IsProgress bits ip text None named → IsProgress bits ip text named last → IsHeld bits ip text last
 held_after bits ip text named last p q = q.held (p.held tt)
 

@@ -79,6 +79,7 @@ length-names = refl
 start_is : (bucket start : ℕ) → slice_get starts bucket ≡ Some start → start_of bucket ≡ start
 start_is bucket start e = ap (λ (o : Option ℕ). unwrap_or o 0) e
 
+-- each code of a name is in the bucket of that name
 pub complete : (name : List ℕ) (first end code : ℕ) → slice_get starts (bucket_of name) ≡ Some first → slice_get starts (bucket_of name + 1) ≡ Some end → code < ROWS → name_of code ≡ name → IsAmong code first end
 unfolding name_of
 complete name first end code at_first at_end lt e =
@@ -95,10 +96,12 @@ complete name first end code at_first at_end lt e =
 
 -- ---- the bucket of a name, byte by byte
 
+-- the bucket of a name, one byte further
 pub bucket-step : (bucket : ℕ) (name : List ℕ) (k : ℕ) → k < length name → bucket_from bucket (drop k name) ≡ bucket_from ((bucket * 31 + get_or name k 0) % 1024) (drop (k + 1) name)
 unfolding bucket_from
 bucket-step bucket name k lt = rw (add-one, drop-cons name k 0) refl
 
+-- a bucket is one of 1,024
 pub bucket-below : (n : ℕ) → n % 1024 < 1024
 bucket-below n = omega arith
 
@@ -108,6 +111,7 @@ drop_all [] (suc k) h = refl
 drop_all (x ∷ xs) zero h = absurd (omega arith)
 drop_all (x ∷ xs) (suc k) h = drop_all xs k (omega arith)
 
+-- the bucket of a name at its end
 pub bucket-end : (bucket : ℕ) (name : List ℕ) (k : ℕ) → length name ≤ k → bucket ≡ bucket_from bucket (drop k name)
 unfolding bucket_from
 bucket-end bucket name k h = rw (drop_all name k h) refl

@@ -102,11 +102,13 @@ row_covers bits row a b c d =
     ∙ ap (λ (x : Bool). admits row 2 c && x)
     (class_covers (admits row 3) d [] [] ∙ and_true (admits row 3 d)))))
 
+-- the flags of a row take the flags of some operands exactly if the row takes the operands
 pub taken : (bits : Bits) (row : Row) (a b c d : OperandClass) → (bit_and (number_of (row_flags row)) (number_of (asked_flags bits a b c d)) == number_of (asked_flags bits a b c d)) ≡ takes bits row a b c d
 taken bits row a b c d = compared (row_flags row) (asked_flags bits a b c d) ∙ row_covers bits row a b c d
 
 -- ---- flags behind flags
 
+-- the number of a class with others behind it
 pub class_number : (c : OperandClass) (more : List Bool) → number_of (one_class c more) ≡ number_of (one_class c []) + 0x4000 * number_of more
 unfolding one_class number_of
 class_number class.Absent more = omega arith

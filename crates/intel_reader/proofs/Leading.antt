@@ -17,9 +17,11 @@ use Rattle.intel_reader.specs.Choice.{assembly_of, LeadsChoice, IsProgress}
 pub rank_total : IsTotalOrder compare_assemblies
 rank_total = then_total (on_total (λ (a : Assembly). length a.bytes) nat_cmp_total) (then_total (on_total (λ (a : Assembly). a.instr.code.0) nat_cmp_total) (on_total (λ (a : Assembly). a.bytes) nat_list_cmp_total))
 
+-- an assembly is not behind itself
 pub not_after-self : (a : Assembly) → is_gt (compare_assemblies a a) ≡ false
 not_after-self a = ap is_gt (tied_itself rank_total a)
 
+-- so it leads itself
 pub leads_itself : (f : Found) (b : Assembly) → assembly_of f ≡ b → LeadsChoice (Some f) b
 leads_itself f b e = subst (λ (c : Assembly). is_gt (compare_assemblies (assembly_of f) c) ≡ false) e (not_after-self (assembly_of f))
 
@@ -32,12 +34,15 @@ reversed Greater h = refl
 pub other_first : (a b : Assembly) → is_gt (compare_assemblies a b) ≡ true → is_gt (compare_assemblies b a) ≡ false
 other_first a b h = ap is_gt (rank_total.antisymm b a) ∙ reversed (compare_assemblies a b) h
 
+-- what a choice leads, an earlier one leads
 pub leads_on : (f g : Found) (b : Assembly) → is_gt (compare_assemblies (assembly_of g) (assembly_of f)) ≡ false → LeadsChoice (Some f) b → LeadsChoice (Some g) b
 leads_on f g b h k = upto rank_total (assembly_of g) (assembly_of f) b h k
 
+-- a choice that stays makes progress
 pub stays : (bits : Bits) (ip : ℕ) (text : List ℕ) (best : Option Found) → IsProgress bits ip text best best
 stays bits ip text best = record { held = λ h. h; kept = λ b h. h }
 
+-- progress goes on
 pub goes_on : (bits : Bits) (ip : ℕ) (text : List ℕ) (a b c : Option Found) → IsProgress bits ip text a b → IsProgress bits ip text b c → IsProgress bits ip text a c
 goes_on bits ip text a b c p q = record { held = λ h. q.held (p.held h); kept = λ x h. q.kept x (p.kept x h) }
 

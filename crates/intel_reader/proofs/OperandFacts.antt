@@ -22,6 +22,7 @@ use Rattle.intel_reader.proofs.AddressBack.{of_width}
 
 -- ---- near targets
 
+-- a kind that takes an immediate is no near target
 pub immediate_not_near : (place : Place) (how : Method) (x : ℕ) → is_variant_of place how (Imm x) ≡ true → is_near how ≡ false
 unfolding is_variant_of is_near
 immediate_not_near place method.Near x h = sym h
@@ -33,6 +34,7 @@ allowed_near AnyPlace x = refl
 allowed_near OnlyMemory x = refl
 allowed_near OnlyRegister x = refl
 
+-- a kind that takes a near target is one
 pub near_is_near : (place : Place) (how : Method) (x : ℕ) → is_variant_of place how (Near x) ≡ true → is_near how ≡ true
 unfolding is_variant_of is_near
 near_is_near place method.Near x h = refl
@@ -96,6 +98,7 @@ far_by_kind B32 Ap s o e h = (ltb-true s (2 ^ 16) (and_parts (nat_lt s (2 ^ 16))
 far_by_kind B64 Ap s o e h = (ltb-true s (2 ^ 16) (and_parts (nat_lt s (2 ^ 16)) (nat_lt o (2 ^ 32)) h).0, ltb-true o (2 ^ 32) (and_parts (nat_lt s (2 ^ 16)) (nat_lt o (2 ^ 32)) h).1)
 far_by_kind size kind s o e h = impossible cc
 
+-- a far pointer that is taken is below the numbers of its size
 pub far_below : (size : Bits) (place : Place) (kind : OpKind) (how : Method) (s o : ℕ) → method_of kind ≡ how → is_variant_of place how (Far s o) ≡ true
     → immediate_suits_how size how (immediate_bytes size kind) (Far s o) ≡ true → FarIs s o
 unfolding is_variant_of immediate_suits_how

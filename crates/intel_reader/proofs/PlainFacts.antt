@@ -45,6 +45,7 @@ pub record IsReady (bits : Bits) (ip : ℕ) (row : Row) (i : Instr) : Type 0 whe
   pub well : IsTrue (is_well_formed i)
   pub below : i.code.0 < ROWS
 
+-- an instruction with a plain spelling has everything that the reader needs
 pub plain_is_ready : (bits : Bits) (ip : ℕ) (bytes : List ℕ) (row : Row) (i : Instr) → IsPlainlySpelled table bits ip bytes i → slice_get table i.code.0 ≡ Some row → IsReady bits ip row i
 plain_is_ready bits ip bytes row i p at =
     let four : length i.ops ≡ 4 = subst (λ (x : Instr). length x.ops ≡ 4) p.means (four_of_meaning bits ip i.code p.row p.spelling) in

@@ -162,6 +162,7 @@ four-same : (a b c d : Option OperandText) (w x y z : OperandText) → a ≡ Som
 unfolding four
 four-same a b c d w x y z ea eb ec ed = rw (ea, eb, ec, ed) refl
 
+-- the operands of a printed text are read as those of the instruction
 pub operands-read : (bits : Bits) (row : Row) (instr : Instr) → are_in_front instr ≡ true → nth_is_printable bits instr 0 ≡ true →
     nth_is_printable bits instr 1 ≡ true → nth_is_printable bits instr 2 ≡ true → nth_is_printable bits instr 3 ≡ true →
     operands_in (from_0 bits row instr) ≡ Some (nth_of bits row instr 0 ∷ nth_of bits row instr 1 ∷ nth_of bits row instr 2 ∷ nth_of bits row instr 3 ∷ [])
@@ -193,18 +194,22 @@ operands-read bits row instr f p0 p1 p2 p3 =
 
 -- ---- the operands behind the name
 
+-- no word goes on behind the name of an instruction
 pub operands-stop : (bits : Bits) (row : Row) (instr : Instr) → are_in_front instr ≡ true → front_while is_word_byte (behind_name bits row instr) ≡ []
 operands-stop bits row instr f = first-stops (nth_operand instr 0) (from_0 bits row instr) (absent-0 bits row instr f)
 
+-- so what follows the name is kept whole
 pub operands-stay : (bits : Bits) (row : Row) (instr : Instr) → are_in_front instr ≡ true → back is_word_byte (behind_name bits row instr) ≡ behind_name bits row instr
 operands-stay bits row instr f = first-stays (nth_operand instr 0) (from_0 bits row instr) (absent-0 bits row instr f)
 
+-- the operands begin behind the space that follows the name
 pub operands-found : (bits : Bits) (row : Row) (instr : Instr) → are_in_front instr ≡ true → rest (behind_name bits row instr) ≡ from_0 bits row instr
 operands-found bits row instr f = first-found (nth_operand instr 0) (from_0 bits row instr) (absent-0 bits row instr f)
 
 regroup : (s0 x0 s1 x1 s2 x2 s3 x3 : List ℕ) → (s0 ++ x0) ++ ((s1 ++ x1) ++ ((s2 ++ x2) ++ (s3 ++ x3))) ≡ s0 ++ (x0 ++ (s1 ++ (x1 ++ (s2 ++ (x2 ++ (s3 ++ x3))))))
 regroup s0 x0 s1 x1 s2 x2 s3 x3 = simp append_assoc
 
+-- each operand ends at a comma or with the text
 pub operands-grouped : (bits : Bits) (row : Row) (instr : Instr) →
     operand_part Intel bits row instr 0 ++ (operand_part Intel bits row instr 1 ++ (operand_part Intel bits row instr 2 ++ operand_part Intel bits row instr 3))
     ≡ behind_name bits row instr

@@ -7,10 +7,12 @@ use Rattle.intel_words.specs.Scanning.{front_while, back}
 
 -- ---- choices
 
+-- a choice by a test that fails
 pub if-no : {A : Type 0} (b : Bool) (x y : A) → b ≡ false → (if b then x else y) ≡ y
 if-no true x y h = absurd cc
 if-no false x y h = refl
 
+-- a choice by a test that holds
 pub if-yes : {A : Type 0} (b : Bool) (x y : A) → b ≡ true → (if b then x else y) ≡ x
 if-yes true x y h = refl
 if-yes false x y h = absurd cc
@@ -21,6 +23,7 @@ front-step : (b : Bool) (c : ℕ) (cs r : List ℕ) (n : ℕ) → r ≡ take n c
 front-step true c cs r n e = let s : 1 + n ≡ suc n = omega arith in rw s (ap (λ (t : List ℕ). c ∷ t) e)
 front-step false c cs r n e = refl
 
+-- the longest front that passes a test, as a number of items taken
 pub front-take : (p : ℕ → Bool) (xs : List ℕ) → front_while p xs ≡ take (prefix_len p xs) xs
 unfolding front_while
 front-take p [] = refl
@@ -30,6 +33,7 @@ back-step : (b : Bool) (c : ℕ) (cs r : List ℕ) (n : ℕ) → r ≡ drop n cs
 back-step true c cs r n e = let s : 1 + n ≡ suc n = omega arith in rw s e
 back-step false c cs r n e = refl
 
+-- what follows it, as a number of items dropped
 pub back-drop : (p : ℕ → Bool) (xs : List ℕ) → back p xs ≡ drop (prefix_len p xs) xs
 unfolding back
 back-drop p [] = refl
@@ -41,6 +45,7 @@ front-passes : (b : Bool) (c : ℕ) (r s : List ℕ) → b ≡ true → r ≡ s 
 front-passes true c r s h e = ap (λ (t : List ℕ). c ∷ t) e
 front-passes false c r s h e = absurd cc
 
+-- a front that passes goes on into what follows it
 pub front-append : (p : ℕ → Bool) (xs ys : List ℕ) → list_all p xs ≡ true → front_while p (xs ++ ys) ≡ xs ++ front_while p ys
 unfolding front_while
 front-append p [] ys h = refl
@@ -52,6 +57,7 @@ back-passes : (b : Bool) (r s t : List ℕ) → b ≡ true → r ≡ s → (if b
 back-passes true r s t h e = e
 back-passes false r s t h e = absurd cc
 
+-- and so does what follows that
 pub back-append : (p : ℕ → Bool) (xs ys : List ℕ) → list_all p xs ≡ true → back p (xs ++ ys) ≡ back p ys
 unfolding back
 back-append p [] ys h = refl
@@ -63,6 +69,7 @@ back-append p (c ∷ cs) ys h =
 pub front-ends : (p : ℕ → Bool) (xs ys : List ℕ) → list_all p xs ≡ true → front_while p ys ≡ [] → front_while p (xs ++ ys) ≡ xs
 front-ends p xs ys h e = front-append p xs ys h ∙ (ap (λ (t : List ℕ). xs ++ t) e ∙ append-nil xs)
 
+-- a list that passes in front of one that does not leaves the second
 pub back-ends : (p : ℕ → Bool) (xs ys : List ℕ) → list_all p xs ≡ true → back p ys ≡ ys → back p (xs ++ ys) ≡ ys
 back-ends p xs ys h e = back-append p xs ys h ∙ e
 
@@ -73,6 +80,7 @@ front-all p [] h = refl
 front-all p (c ∷ cs) h =
     front-passes (p c) c (front_while p cs) cs (and_parts (p c) (list_all p cs) h).0 (front-all p cs (and_parts (p c) (list_all p cs) h).1)
 
+-- nothing follows a list that passes as a whole
 pub back-all : (p : ℕ → Bool) (xs : List ℕ) → list_all p xs ≡ true → back p xs ≡ []
 unfolding back
 back-all p [] h = refl

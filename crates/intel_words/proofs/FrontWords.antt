@@ -98,11 +98,13 @@ less-of h = omega arith
 
 -- ---- LOCK
 
+-- a printed lock word is read as it was printed
 pub lock-value : (lock : Bool) (t : List ℕ) → 0 < rank (word t) → is_lock (word (lock_word lock ++ t)) ≡ lock
 unfolding lock_word rank is_lock repeat_prefix_of is_repeat_prefix segment_of_word segment_by size_behind size_by skip_if first rest front_while back is_word_byte
 lock-value true t h = refl
 lock-value false t h = no-lock (word t) h
 
+-- and what follows it is left
 pub lock-behind : (lock : Bool) (t : List ℕ) → 0 < rank (word t) → behind_lock (lock_word lock ++ t) ≡ t
 unfolding behind_lock lock_word rank is_lock repeat_prefix_of is_repeat_prefix segment_of_word segment_by size_behind size_by skip_if first rest front_while back is_word_byte
 lock-behind true t h = refl
@@ -110,18 +112,21 @@ lock-behind false t h = ap (λ (b : Bool). skip_if b t) (no-lock (word t) h)
 
 -- ---- repeat
 
+-- a printed repeat word is read as it was printed
 pub repeat-value : (rep : Rep) (t : List ℕ) → 1 < rank (word t) → repeat_prefix_of (word (repeat_word rep ++ t)) ≡ rep
 unfolding repeat_word rank is_lock repeat_prefix_of is_repeat_prefix segment_of_word segment_by size_behind size_by skip_if first rest front_while back is_word_byte
 repeat-value NoRep t h = no-repeat (repeat_prefix_of (word t)) (no-repeat_word (word t) h)
 repeat-value F2 t h = refl
 repeat-value F3 t h = refl
 
+-- and what follows it is left
 pub repeat-behind : (rep : Rep) (t : List ℕ) → 1 < rank (word t) → behind_repeat (repeat_word rep ++ t) ≡ t
 unfolding behind_repeat repeat_word rank is_lock repeat_prefix_of is_repeat_prefix segment_of_word segment_by size_behind size_by skip_if first rest front_while back is_word_byte
 repeat-behind NoRep t h = ap (λ (b : Bool). skip_if b t) (no-repeat_word (word t) h)
 repeat-behind F2 t h = refl
 repeat-behind F3 t h = refl
 
+-- a text that begins with it begins with no lock word
 pub repeat-rank : (rep : Rep) (t : List ℕ) → 1 < rank (word t) → 0 < rank (word (repeat_word rep ++ t))
 unfolding repeat_word rank is_lock repeat_prefix_of is_repeat_prefix segment_of_word segment_by size_behind size_by skip_if first rest front_while back is_word_byte
 repeat-rank NoRep t h = less-of h
@@ -135,6 +140,7 @@ abbrev pub segment_text : Option Segment → List ℕ
 segment_text None = []
 segment_text (Some s) = segment_name s ++ codes " "
 
+-- a printed segment word is read as it was printed
 pub segment-value : (seg : Option Segment) (t : List ℕ) → 2 < rank (word t) → segment_of_word (word (segment_text seg ++ t)) ≡ seg
 unfolding segment_name rank is_lock repeat_prefix_of is_repeat_prefix segment_of_word segment_by size_behind size_by skip_if first rest front_while back is_word_byte
 segment-value None t h = no-segment (segment_of_word (word t)) (no-segment_word (word t) h)
@@ -145,6 +151,7 @@ segment-value (Some Ds) t h = refl
 segment-value (Some Fs) t h = refl
 segment-value (Some Gs) t h = refl
 
+-- and what follows it is left
 pub segment-behind : (seg : Option Segment) (t : List ℕ) → 2 < rank (word t) → behind_segment (segment_text seg ++ t) ≡ t
 unfolding behind_segment segment_name rank is_lock repeat_prefix_of is_repeat_prefix segment_of_word segment_by size_behind size_by skip_if first rest front_while back is_word_byte
 segment-behind None t h = ap (λ (b : Bool). skip_if b t) (no-segment_word (word t) h)
@@ -155,6 +162,7 @@ segment-behind (Some Ds) t h = refl
 segment-behind (Some Fs) t h = refl
 segment-behind (Some Gs) t h = refl
 
+-- a text that begins with it begins with no earlier word
 pub segment-rank : (seg : Option Segment) (t : List ℕ) → 2 < rank (word t) → 1 < rank (word (segment_text seg ++ t))
 unfolding segment_name rank is_lock repeat_prefix_of is_repeat_prefix segment_of_word segment_by size_behind size_by skip_if first rest front_while back is_word_byte
 segment-rank None t h = less-of h
@@ -178,6 +186,7 @@ IsReadSize letter name k size t =
     (size_behind letter (word (sized_text name size ++ t)) ≡ size) × (behind_size_word letter (sized_text name size ++ t) ≡ t)
     × (k < rank (word (sized_text name size ++ t)))
 
+-- a printed address-size word is read as it was printed
 pub address-read : (size : Option Bits) (t : List ℕ) → 3 < rank (word t) → IsReadSize 97 (codes "a") 2 size t
 unfolding behind_size_word sized_word size_digits rank is_lock repeat_prefix_of is_repeat_prefix segment_of_word segment_by size_behind size_by skip_if first rest front_while back is_word_byte
 address-read None t h =
@@ -185,6 +194,7 @@ address-read None t h =
 address-read (Some B16) t h = (refl, refl, lit< tt)
 address-read _ t h = (refl, refl, lit< tt)
 
+-- a printed operand-size word is read as it was printed
 pub operand-read : (size : Option Bits) (t : List ℕ) → 4 < rank (word t) → IsReadSize 111 (codes "o") 3 size t
 unfolding behind_size_word sized_word size_digits rank is_lock repeat_prefix_of is_repeat_prefix segment_of_word segment_by size_behind size_by skip_if first rest front_while back is_word_byte
 operand-read None t h =
@@ -200,6 +210,7 @@ pick-segment true seg = refl
 pick-segment false None = refl
 pick-segment false (Some s) = refl
 
+-- the segment word is the text of the segment that is printed
 pub segment-word : (instr : Instr) → segment_word instr ≡ segment_text (segment_of instr)
 unfolding segment_word segment_of
 segment-word instr = pick-segment (shows_memory instr) instr.seg
@@ -214,6 +225,7 @@ address-by : (bits : Bits) (name : List ℕ) (instr : Instr) (asize : Option Bit
 address-by bits name instr None = refl
 address-by bits name instr (Some size) = pick-size (codes "a") (needs_address_word bits size name instr) size
 
+-- the address-size word is the text of the address size that is printed
 pub address-word : (bits : Bits) (name : List ℕ) (instr : Instr) → address_word bits name instr ≡ sized_text (codes "a") (address_size_of bits name instr)
 unfolding address_word address_size_of
 address-word bits name instr = address-by bits name instr instr.asize
@@ -229,6 +241,7 @@ operand-by bits row true None = refl
 operand-by bits row true (Some size) = pick-size (codes "o") (differs size (usual_size bits row)) size
 operand-by bits row false named = refl
 
+-- the operand-size word is the text of the operand size that is printed
 pub operand-word : (bits : Bits) (row : Row) → operand_size_word bits row ≡ sized_text (codes "o") (operand_size_of bits row)
 unfolding operand_size_word operand_size_of
 operand-word bits row = operand-by bits row (is_sized row) (named_size row.size)
@@ -272,11 +285,13 @@ pub name-word : (bits : Bits) (name : List ℕ) (instr : Instr) (ops : List ℕ)
 name-word bits name instr ops h e =
     front-ends is_word_byte (name_text bits name instr) ops (plain-bytes (name_text bits name instr) (printed-plain bits name instr h)) e
 
+-- the operands follow the name
 pub name-behind : (bits : Bits) (name : List ℕ) (instr : Instr) (ops : List ℕ) → is_plain_name name ≡ true → back is_word_byte ops ≡ ops →
     rest_behind (name_text bits name instr ++ ops) ≡ ops
 name-behind bits name instr ops h e =
     back-ends is_word_byte (name_text bits name instr) ops (plain-bytes (name_text bits name instr) (printed-plain bits name instr h)) e
 
+-- a text that begins with a name begins with no prefix word
 pub name-rank : (bits : Bits) (name : List ℕ) (instr : Instr) (ops : List ℕ) → is_plain_name name ≡ true → front_while is_word_byte ops ≡ [] →
     4 < rank (word (name_text bits name instr ++ ops))
 name-rank bits name instr ops h e =

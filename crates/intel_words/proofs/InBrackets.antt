@@ -32,17 +32,21 @@ use Rattle.intel_words.proofs.Below.{agree-below}
 
 -- ---- numbers and registers in front of another text
 
+-- a printed number is read as it was printed
 pub number-word : (n : ℕ) (ys : List ℕ) → n < 2 ^ 64 → front_while is_word_byte ys ≡ [] → number_named (word (number Intel n ++ ys)) ≡ Some n
 number-word n ys h e = ap number_named (front-ends is_word_byte (number Intel n) ys (number-bytes n) e) ∙ number-read n h
 
+-- and what follows it is left
 pub number-behind : (n : ℕ) (ys : List ℕ) → back is_word_byte ys ≡ ys → rest_behind (number Intel n ++ ys) ≡ ys
 number-behind n ys e = back-ends is_word_byte (number Intel n) ys (number-bytes n) e
 
+-- a printed register is read as it was printed
 pub register-word : (r : Register) (ys : List ℕ) → is_named r ≡ true → front_while is_word_byte ys ≡ [] → register_named (word (register Intel r ++ ys)) ≡ Some r
 register-word r ys h e =
     let read = register-read r h in
     ap register_named (front-ends is_word_byte (register Intel r) ys read.bytes e) ∙ read.named
 
+-- and what follows it is left
 pub register-behind : (r : Register) (ys : List ℕ) → is_named r ≡ true → back is_word_byte ys ≡ ys → rest_behind (register Intel r ++ ys) ≡ ys
 register-behind r ys h e =
     let read = register-read r h in
@@ -54,11 +58,13 @@ unfolding first
 first-front [] ys h = absurd cc
 first-front (c ∷ cs) ys h = refl
 
+-- a register's text begins with a letter
 pub letter-first : (r : Register) (ys : List ℕ) → is_named r ≡ true → nat_le 97 (first (register Intel r ++ ys)) ≡ true
 letter-first r ys h =
     let read = register-read r h in
     ap (λ (c : ℕ). nat_le 97 c) (first-front (register Intel r) ys read.letter) ∙ read.letter
 
+-- which is no digit and no sign
 pub no-letter : (c k : ℕ) → nat_le 97 c ≡ true → k < 97 → (c == k) ≡ false
 no-letter c k h lt = grind (arith, nat_tests)
 
@@ -333,6 +339,7 @@ pick-inside true a x y z u v w f g h = f refl
 pick-inside false true x y z u v w f g h = g
 pick-inside false false x y z u v w f g h = h refl
 
+-- what a printed address has in its brackets is read as it was printed
 pub inside-read : (asize : Bits) (m : Mem) → is_printable_address asize m ≡ true → inside_in (inside Intel asize m ++ codes "]") ≡ Some (inside_of asize m)
 unfolding inside inside_of is_printable_address is_word_number
 inside-read asize m h =

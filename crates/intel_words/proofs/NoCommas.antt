@@ -180,6 +180,7 @@ unfolding is_no_comma
 far-plain selector offset =
     all-both is_no_comma (number Intel selector) (codes ":" ++ number Intel offset) (number-plain selector) (number-plain offset)
 
+-- the text of an operand has no comma outside brackets
 pub operand-plain : (bits : Bits) (row : Row) (instr : Instr) (n : ℕ) (op : Operand) → is_printable_operand (text_address_size bits instr) op ≡ true →
     list_all is_no_comma (bracket_operand Intel bits row instr n op) ≡ true
 unfolding bracket_operand is_printable_operand

@@ -119,6 +119,7 @@ far-operand selector offset hs ho =
 
 -- ---- addresses
 
+-- a printed memory operand is read as it was printed
 pub bracket-read : (size : SizeName) (seg : Option Segment) (asize : Bits) (m : Mem) → is_printable_address asize m ≡ true →
     address_in size (bracketed_address Intel seg asize m) ≡ Some (Address (record { size = size; seg = seg; inside = inside_of asize m }))
 unfolding bracketed_address bracket_segment segment_override sigil segment_name address_in address_at address_by segment_of_word segment_by first rest front_while back is_word_byte
@@ -187,6 +188,7 @@ pick-either : (far : Bool) (size : Size) (n : ℕ) → (if far then far_name siz
 pick-either true size n = pick-far size
 pick-either false size n = bytes-text n
 
+-- the size word of an operand is the text of its size
 pub size-of-text : (row : Row) (n : ℕ) → operand_size_name row n ≡ size_text (size_word_of row n)
 unfolding operand_size_name size_word_of
 size-of-text row n = pick-either (is_far_pointer (kind_at row n)) row.size (memory_size row)
@@ -201,6 +203,7 @@ memory-operand bits row instr n m h =
 
 -- ---- each operand
 
+-- a printed operand is read as it was printed
 pub operand-read : (bits : Bits) (row : Row) (instr : Instr) (n : ℕ) (op : Operand) → is_printable_operand (text_address_size bits instr) op ≡ true →
     operand_in (bracket_operand Intel bits row instr n op) ≡ Some (operand_of bits row instr n op)
 unfolding bracket_operand operand_of is_printable_operand is_word_number operand_in

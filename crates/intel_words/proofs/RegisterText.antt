@@ -70,6 +70,7 @@ segment-read Ds = is_read (Seg Ds) refl
 segment-read Fs = is_read (Seg Fs) refl
 segment-read Gs = is_read (Seg Gs) refl
 
+-- each register's text is read as that register
 pub register-read : (r : Register) → is_named r ≡ true → IsRead r
 unfolding is_named word_name low_byte_name high_byte_name segment_name stack_name register_name sigil register decimal is_word_byte first rest decimal_digit teen decimal_in segment_by letter_number word_number below_8 pointer_byte two_letters register_of_letters e_named from_8 sized_by r_named vector_number register_from register_named
 register-read (Low8 n) h = class-read Low8 16 n each_is_found.low8 (ltb-true n 16 h)
@@ -97,6 +98,7 @@ segment_name-read Ds = refl
 segment_name-read Fs = refl
 segment_name-read Gs = refl
 
+-- the name of a segment register has letters alone
 pub segment_name-bytes : (s : Segment) → list_all is_word_byte (segment_name s) ≡ true
 unfolding is_word_byte segment_name
 segment_name-bytes Es = refl

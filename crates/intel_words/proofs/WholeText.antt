@@ -116,6 +116,7 @@ grouped-read bits row name instr text h e0 =
           ∙ (ap operands_in (operands-found bits row instr f) ∙ operands-read bits row instr f p0 p1 p2 p3));
     }
 
+-- a printed text is read as the parts that it was printed from
 pub text-read : (bits : Bits) (row : Row) (name : List ℕ) (instr : Instr) (text : List ℕ) → is_printable bits row name instr ≡ true →
     bracket_layout Intel bits row name instr ≡ text → AreWords bits row name instr text
 text-read bits row name instr text h e = grouped-read bits row name instr text h (sym e ∙ layout-grouped bits row name instr)
@@ -133,6 +134,7 @@ same-words bits row name instr lock rep seg asize osize ops el er es ea eo eops 
 same-value : (x y : List OperandText) (o : Option (List OperandText)) → o ≡ Some x → o ≡ Some y → x ≡ y
 same-value x y o e f = cc
 
+-- equal texts have equal prefix words, names and operands
 pub shown_words : (bits : Bits) (row other : Row) (name another : List ℕ) (i j : Instr) → is_printable bits row name i ≡ true → is_printable bits other another j ≡ true →
     bracket_layout Intel bits row name i ≡ bracket_layout Intel bits other another j → words_of bits row name i ≡ words_of bits other another j
 shown_words bits row other name another i j hi hj e =

@@ -9,11 +9,6 @@ pub ok_in : (E : Type 0) (P : Decoded → Type 0) (r : Result (Unit {0}) E) (pla
 ok_in E P (Ok done) place h = h
 ok_in E P (Err why) place h = tt
 
--- what holds of a number where there is one
-pub told : (known : Option ℕ) (n : ℕ) (P : ℕ → Type 0) → IfSome known P → known ≡ Some n → P n
-told None n P h e = cc
-told (Some m) n P h e = let same : m ≡ n = cc in subst P same h
-
 -- what follows from what holds where there is an answer
 pub some_in : (r : Option (Unit {0})) (P Q : Type 0) → (P → Q) → IfSome r (λ done. P) → IfSome r (λ done. Q)
 some_in None P Q f h = tt

@@ -1,4 +1,4 @@
-//! What stands behind the opcode byte, read: ModRM, SIB, displacement and immediates
+//! What follows the opcode byte, read: ModRM, SIB, displacement and immediates
 //! (Intel SDM volume 2, 2.1.3 to 2.1.5).
 #![tactic(auto)]
 
@@ -63,7 +63,7 @@ pub fn read_row(
         → RowReadsNothing bits row.now bytes.now × (RowCanGoOn bits row.now bytes.now → ⊥) }
 {
     let mut decoded = UNREAD;
-    match read_row_into(bits, ip, state, code, row, None, bytes, &mut decoded) {
+    match read_row_into(bits, ip, state, code, row, bytes, &mut decoded) {
         Ok(()) => Ok(decoded),
         Err(error) => Err(error),
     }
@@ -75,9 +75,7 @@ pub const UNREAD: Decoded = Decoded {
     len: 0,
 };
 
-/// Reads the tail of a row as [`read_row`] does, and writes the instruction to `out`. After an error nothing is said of what stands there.
-///
-/// `known` are the bytes of the row's immediates, where it is known to take the state with the ModRM that stands there: so that is not asked again.
+/// Reads the tail of a row as [`read_row`] does, and writes the instruction to `out`. After an error `out` holds no instruction.
 #[inline(always)]
 pub fn read_row_into(
     bits: Bits,
@@ -85,13 +83,10 @@ pub fn read_row_into(
     state: &PrefixState,
     code: Code,
     row: &Row,
-    known: Option<u8>,
     bytes: &[u8],
     out: &mut Decoded,
 ) -> Result<(), TailError>
     requires sound { IsTrue (sound row.now) }
-    requires known { IfSome known (λ n. TellsLengths bits row.now state.now n) }
-    requires fitting { IfSome known (λ _. KnownToFit bits row.now state.now (drop (state.now.used + 1) bytes.now)) }
     requires front { front_of bits bytes.now ≡ Known state.now }
     ensures ok { IfOk result (λ _. RowReads bits ip code row.now bytes.now out.new) }
     ensures len { IfOk result (λ _. (0 < out.new.len) × (out.new.len < 64) × (out.new.len ≤ length bytes.now)) }
@@ -101,16 +96,16 @@ pub fn read_row_into(
         → RowReadsNothing bits row.now bytes.now × (RowCanGoOn bits row.now bytes.now → ⊥) }
 {
     let (_, tail) = bytes.split_at(state.used as usize + 1);
-    read::read_tail(bits, ip, state, code, row, known, tail, out)
+    read::read_tail(bits, ip, state, code, row, tail, out)
 }
 
 /// Reads the tail of a row as [`read_row_into`] does, where the row is known to take the state with the ModRM that stands there, and at most one
-/// of its operands has bytes of the immediates. Answers None where the bytes begin with no instruction of the row of at most 15 bytes; then nothing is
-/// said of what stands in `out`.
+/// of its operands has bytes of the immediates. Returns None if the bytes do not begin with an
+/// instruction of the row of at most 15 bytes; then the contents of `out` are unspecified.
 ///
 /// `size` is the operand size of the row under the prefixes, and `immediates` the bytes of its immediates.
 #[inline(always)]
-pub fn read_known_into(
+pub fn read_fitting_into(
     bits: Bits,
     ip: u64,
     state: &PrefixState,

@@ -42,7 +42,7 @@ pub fn sib_of_byte(b: u8) -> Sib
     }
 }
 
-/// Whether a SIB stands behind this ModRM.
+/// Whether a SIB follows this ModRM.
 #[inline]
 #[tactic(auto, unfolding(crate::specs::Parts::takes_sib))]
 pub(crate) fn takes_sib(bits: Bits, row: &Row, state: &PrefixState, m: ModRm) -> bool
@@ -51,21 +51,7 @@ pub(crate) fn takes_sib(bits: Bits, row: &Row, state: &PrefixState, m: ModRm) ->
     needs_sib(state_address_size(bits, state), m) && reads_mode(row)
 }
 
-/// Whether a SIB stands behind this ModRM; whether the row reads mod is not asked where it is `known` that it does.
-#[inline(always)]
-#[tactic(auto, unfolding(crate::specs::Parts::takes_sib))]
-pub(crate) fn has_sib(bits: Bits, row: &Row, state: &PrefixState, m: ModRm, known: bool) -> bool
-    requires { known ≡ true → fits.reads_mode row.now ≡ true }
-    ensures { result ≡ spec.takes_sib bits row.now state.now m }
-{
-    if known {
-        needs_sib(state_address_size(bits, state), m)
-    } else {
-        takes_sib(bits, row, state, m)
-    }
-}
-
-/// The bytes of the displacement.
+/// The number of bytes of the displacement.
 #[inline]
 #[tactic(auto, unfolding(crate::specs::Parts::displacement_len))]
 pub(crate) fn displacement_len(
@@ -88,24 +74,6 @@ pub(crate) fn displacement_len(
             let len = displacement_bytes(asize, m, sib);
             if len == 0 || reads_mode(row) { len } else { 0 }
         }
-    }
-}
-
-/// The bytes of the displacement of a row that reads mod and has no absolute address.
-#[inline(always)]
-#[tactic(auto, unfolding(crate::specs::Parts::displacement_len))]
-pub(crate) fn plain_displacement_len(
-    bits: Bits,
-    state: &PrefixState,
-    m: Option<ModRm>,
-    sib: Option<Sib>,
-) -> u8
-    ensures { (row : Row) → fits.reads_mode row ≡ true → fits.reads_by fits.is_offset row ≡ false
-        → result ≡ spec.displacement_len bits row state.now m sib }
-{
-    match m {
-        None => 0,
-        Some(m) => displacement_bytes(state_address_size(bits, state), m, sib),
     }
 }
 

@@ -1,6 +1,6 @@
 //! The bytes behind the opcode byte, read part by part.
 
-ghost use Rattle.std.specs.Prelude.{◌≡◌, ◌<◌, ◌≤◌, true, IsTrue, ℕ, IfSome, IfOk, IfErr, Err};
+ghost use Rattle.std.specs.Prelude.{◌≡◌, ◌<◌, ◌≤◌, true, IsTrue, ℕ, IfOk, IfErr, Err};
 ghost use Rattle.x86_values.specs.declared.Decoded.{Decoded};
 ghost use Rattle.modrm_sib.specs.Answer as spec;
 ghost use Rattle.modrm_sib.specs.Parts as parts;
@@ -10,9 +10,7 @@ ghost use Rattle.row_fit.specs.Sound.{sound, has_modrm_rule};
 
 use crate::TailError;
 use crate::ends::{some_modrm_fits, some_sib_fits};
-use crate::parts::{
-    displacement_len, has_sib, modrm_of_byte, parts_fit, plain_displacement_len, sib_of_byte,
-};
+use crate::parts::{displacement_len, modrm_of_byte, parts_fit, sib_of_byte, takes_sib};
 use instruction_parts::row_types::{ModRmRule, Row};
 use instruction_parts::sizes::state_size;
 use instruction_parts::{ModRm, PrefixState, Sib};
@@ -32,41 +30,32 @@ fn at_end(can_go_on: bool) -> TailError
     }
 }
 
-/// The bytes of the displacement, of which there are 8 at most.
+/// The number of bytes of the displacement: at most 8.
 #[inline(always)]
-fn displacement_size(
+fn short_displacement_len(
     bits: Bits,
     row: &Row,
     state: &PrefixState,
-    known: Option<u8>,
     m: Option<ModRm>,
     sib: Option<Sib>,
 ) -> u8
-    requires { IfSome known (λ n. parts.TellsLengths bits row.now state.now n) }
     ensures value { result ≡ parts.displacement_len bits row.now state.now m sib }
     ensures small { result ≤ 8 }
 {
-    match known {
-        Some(_) => plain_displacement_len(bits, state, m, sib),
-        None => displacement_len(bits, row, state, m, sib),
-    }
+    displacement_len(bits, row, state, m, sib)
 }
 
-/// The bytes of the immediates, of which a row has 8 at most.
+/// The number of bytes of a row's immediates: at most 8.
 #[inline(always)]
-fn immediates_size(bits: Bits, row: &Row, state: &PrefixState, known: Option<u8>) -> u8
-    requires sound { IsTrue (sound row.now) }
-    requires known { IfSome known (λ n. parts.TellsLengths bits row.now state.now n) }
+fn immediates_len(bits: Bits, row: &Row, state: &PrefixState) -> u8
+    requires { IsTrue (sound row.now) }
     ensures value { result ≡ fits.immediates_bytes (state_size bits row.now state.now) row.now }
     ensures small { result ≤ 8 }
 {
-    match known {
-        Some(n) => n,
-        None => immediates_bytes(state_size(bits, row, state), row),
-    }
+    immediates_bytes(state_size(bits, row, state), row)
 }
 
-/// What stands behind ModRM and SIB. Whether these fit the row is not asked where it is `known`.
+/// Reads what follows ModRM and SIB.
 // An instruction is written where it is to stand, here and in the calls above: handed on as a value, it is copied by each of them.
 #[inline(always)]
 #[tactic(auto, unfolding(crate::specs::Answer::rest_answer, crate::specs::Answer::fitting_answer))]
@@ -76,13 +65,10 @@ fn read_rest(
     state: &PrefixState,
     code: Code,
     row: &Row,
-    known: Option<u8>,
     head: &Head,
     out: &mut Decoded,
 ) -> Result<(), TailError>
     requires sound { IsTrue (sound row.now) }
-    requires known { IfSome known (λ n. parts.TellsLengths bits row.now state.now n) }
-    requires fitting { IfSome known (λ _. parts.parts_fit bits row.now state.now head.now.modrm head.now.sib ≡ true) }
     requires modrm { IsTrue (fits.modrm_in_range head.now.modrm) }
     requires sib { IsTrue (fits.sib_in_range head.now.sib) }
     requires few { head.now.used < 18 }
@@ -95,11 +81,11 @@ fn read_rest(
         used,
         rest: bytes,
     } = *head;
-    if known.is_none() && !parts_fit(bits, row, state, m, sib) {
+    if !parts_fit(bits, row, state, m, sib) {
         return Err(TailError::Forbidden);
     }
-    let disp_len = displacement_size(bits, row, state, known, m, sib);
-    let imm_len = immediates_size(bits, row, state, known);
+    let disp_len = short_displacement_len(bits, row, state, m, sib);
+    let imm_len = immediates_len(bits, row, state);
     let behind = disp_len as usize + imm_len as usize;
     if bytes.len() < behind {
         return Err(TailError::Ended);
@@ -131,7 +117,7 @@ pub(crate) fn has_modrm(row: &Row) -> bool
     }
 }
 
-/// ModRM and SIB of a tail, and what stands behind them.
+/// ModRM and SIB of a tail, and what follows them.
 #[derive(Clone, Copy)]
 pub(crate) struct Head<'a> {
     modrm: Option<ModRm>,
@@ -149,11 +135,9 @@ fn head_of<'a>(
     bits: Bits,
     state: &PrefixState,
     row: &Row,
-    known: Option<u8>,
     bytes: &'a [u8],
 ) -> Result<Head<'a>, TailError>
-    requires few { state.now.used < 15 }
-    requires known { IfSome known (λ n. parts.TellsLengths bits row.now state.now n) }
+    requires { state.now.used < 15 }
     ensures ok { IfOk result (λ h. (ip : ℕ) (code : Code) → spec.tail_answer bits ip state.now code row.now bytes.now
         ≡ spec.rest_answer bits ip state.now code row.now h.modrm h.sib h.used h.rest.now) }
     ensures modrm { IfOk result (λ h. IsTrue (fits.modrm_in_range h.modrm)) }
@@ -179,7 +163,7 @@ fn head_of<'a>(
         Some((b, rest)) => {
             let m = modrm_of_byte(*b);
             let used = used + 1;
-            if !has_sib(bits, row, state, m, known.is_some()) {
+            if !takes_sib(bits, row, state, m) {
                 return Ok(Head {
                     modrm: Some(m),
                     sib: None,
@@ -203,7 +187,7 @@ fn head_of<'a>(
     }
 }
 
-/// What stands behind the opcode byte: ModRM, the SIB where it takes one, and the rest.
+/// What follows the opcode byte: ModRM, the SIB where it takes one, and the rest.
 #[inline(always)]
 pub(crate) fn read_tail(
     bits: Bits,
@@ -211,18 +195,15 @@ pub(crate) fn read_tail(
     state: &PrefixState,
     code: Code,
     row: &Row,
-    known: Option<u8>,
     bytes: &[u8],
     out: &mut Decoded,
 ) -> Result<(), TailError>
     requires sound { IsTrue (sound row.now) }
     requires few { state.now.used < 15 }
-    requires known { IfSome known (λ n. parts.TellsLengths bits row.now state.now n) }
-    requires fitting { IfSome known (λ _. parts.KnownToFit bits row.now state.now bytes.now) }
     ensures { spec.answer_in result out.new ≡ spec.tail_answer bits ip state.now code row.now bytes.now }
 {
-    match head_of(bits, state, row, known, bytes) {
+    match head_of(bits, state, row, bytes) {
         Err(error) => Err(error),
-        Ok(head) => read_rest(bits, ip, state, code, row, known, &head, out),
+        Ok(head) => read_rest(bits, ip, state, code, row, &head, out),
     }
 }

@@ -105,6 +105,7 @@ module _ (forms : FormFacts) (bits : Bits) (spans : List BlockSpan) (items : Lis
             (all_of_range (is_fit_branch (length items)) (branch_with bits items goals) 0 (length items) (λ k le lt. fit_item k (omega (arith, lt))));
       }
 
+-- the plan of placed items is well formed
 pub well_formed : (forms : FormFacts) (bits : Bits) (spans : List BlockSpan) (items : List Placed) → ArePlaced bits items → length items ≤ 65536 → AreSpansOf items spans
     → IsWellFormed (plan_for bits spans items)
 well_formed forms bits spans items placed few s =
@@ -122,6 +123,7 @@ kept_fits bits count i (Some t) is = refl
 pub one_span-of : (items : List Placed) (new_base : ℕ) → AreSpansOf items (one_span items new_base)
 one_span-of items new_base = record { few = omega arith; counts = zero-add (length items) }
 
+-- and so is the plan from which every target stays
 pub outside-fit : (forms : FormFacts) (bits : Bits) (items : List Placed) (new_base : ℕ) → ArePlaced bits items → length items ≤ 65536
     → IsWellFormed (plan_outside bits items new_base)
 outside-fit forms bits items new_base placed few =

@@ -18,6 +18,7 @@ use Rattle.row_lists.specs.Runs.{run_at, line_runs, first_number, spans_fit}
 abbrev near : ℕ → ℕ → Bool
 near base first = nat_le first (base + 15) && nat_lt base (first + 8)
 
+-- the rows whose opcode bytes lie in the block of 16 that a byte is in
 unfoldable pub near_rows : ℕ → List Coded → List Coded
 near_rows base [] = []
 near_rows base (c ∷ cs) = keep_if (near base c.row.opcode) c (near_rows base cs)
@@ -70,6 +71,7 @@ each-at test cs op h lt =
     ap (λ n. test n (at_opcode n (near_rows (op / 16 * 16) cs))) (sym whole) ∙ one in
     ap (test op) (sym (at_opcode-near (op / 16 * 16) op cs (omega (arith, whole)) (omega (arith, whole)))) ∙ here
 
+-- a test that holds of each number below n is computed as true
 pub below-all : (n : ℕ) (p : ℕ → Bool) → ((k : ℕ) → k < n → p k ≡ true) → below n p ≡ true
 unfolding below
 below-all zero p h = refl
@@ -77,12 +79,14 @@ below-all (suc n) p h = rw (h n (omega arith)) (below-all n p (λ k lt. h k (ome
 
 -- ---- rows that are apart
 
+-- the test that rows are apart, taken by blocks of 16 opcode bytes
 unfoldable pub apart_by_16 : List Row → Bool
 unfolding below each_of_256 of_number rows_with_codes
 apart_by_16 rows =
     let cs : List Coded = rows_with_codes 0 rows in
     below 8 (λ number. each_of_256 cell_apart (of_number number cs))
 
+-- rows that pass it are apart
 pub apart-by_16 : (rows : List Row) → apart_by_16 rows ≡ true → table_apart rows ≡ true
 unfolding apart_by_16 table_apart kind_apart
 apart-by_16 rows h =
@@ -93,15 +97,18 @@ apart-by_16 rows h =
 
 -- ---- spans that fit
 
+-- the spans of a line say where the rows of an opcode byte lie
 abbrev pub run_of : List (List Span) → ℕ → ℕ → List Coded → Bool
 run_of spans line op cs = run_at (cell_span spans line op) cs
 
+-- the test that spans fit the rows, taken by blocks of 16 opcode bytes
 unfoldable pub fit_by_16 : RowKind → List (List Span) → List Row → Bool
 unfolding below each_of_256 of_number rows_with_codes run_at cell_span
 fit_by_16 k spans rows =
     let cs : List Coded = rows_with_codes 0 rows in
     below 4 (λ line. each_of_256 (run_of spans line) (of_number (first_number k + line) cs))
 
+-- spans that pass it fit the rows
 pub fit-by_16 : (k : RowKind) (spans : List (List Span)) (rows : List Row) → fit_by_16 k spans rows ≡ true → spans_fit k spans rows ≡ true
 unfolding fit_by_16 spans_fit line_runs
 fit-by_16 k spans rows h =

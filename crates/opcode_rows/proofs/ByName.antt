@@ -13,10 +13,12 @@ test-at : (k : ℕ) (name : List ℕ) (b : Bool) → bytes_eq (name_of k) name �
 unfolding name_of
 test-at k name b h = ap (λ y. bytes_eq y name) (sym (unwrap_or-slice_get names k [])) ∙ h
 
+-- a row of the name raises the number of rows of that name by one
 pub one-more : (k : ℕ) (name : List ℕ) → k < ROWS → bytes_eq (name_of k) name ≡ true → rows_named_before name (k + 1) ≡ rows_named_before name k + 1
 one-more k name lt h =
     count_by_more_yes (λ x. bytes_eq x name) names k [] (omega (arith, lt, length-names)) (test-at k name true h)
 
+-- a row of another name keeps it
 pub no-more : (k : ℕ) (name : List ℕ) → k < ROWS → bytes_eq (name_of k) name ≡ false → rows_named_before name (k + 1) ≡ rows_named_before name k
 no-more k name lt h =
     count_by_more_no (λ x. bytes_eq x name) names k [] (omega (arith, lt, length-names)) (test-at k name false h)

@@ -30,9 +30,11 @@ runs_of : (k : RowKind) → spans_fit k (table_spans k) table ≡ true
 runs_of kind.Legacy = fit-by_16 kind.Legacy legacy_spans table (by_walk (fit_by_16 kind.Legacy legacy_spans) legacy_runs)
 runs_of kind.Vex = fit-by_16 kind.Vex vex_spans table (by_walk (fit_by_16 kind.Vex vex_spans) vex_runs)
 
+-- a cell has as many rows as its span says
 pub length-cell_at : (k : RowKind) (m : Map) (op : ℕ) (s : Span) → op < 256 → cell_span (table_spans k) (map_index m) op ≡ Some s → length (cell k m op) ≡ s.count
 length-cell_at k m op s byte at = length-cell k m op (table_spans k) table s (runs_of k) byte at
 
+-- its rows lie where its span says
 pub run-cell_at : (k : RowKind) (m : Map) (op : ℕ) (s : Span) → op < 256 → cell_span (table_spans k) (map_index m) op ≡ Some s
     → IsRunOf table k m op s.first (length (cell k m op))
 run-cell_at k m op s byte at =
@@ -83,5 +85,6 @@ span-known k m op byte =
     in
     some-known (cell_span (table_spans k) (map_index m) op) (below-at 256 (λ o. has_span (table_spans k) (map_index m) o) op line byte)
 
+-- the rows of each cell lie one after the other
 pub run-cell : (k : RowKind) (m : Map) (op : ℕ) → op < 256 → (first : ℕ) × IsRunOf table k m op first (length (cell k m op))
 run-cell k m op byte = let s = span-known k m op byte in (s.0.first, run-cell_at k m op s.0 byte s.1)

@@ -9,10 +9,12 @@ use Rattle.opcode_rows.specs.Table.{table}
 use Rattle.opcode_rows.specs.Allowed.{is_formed, is_formed_by, is_well_formed}
 use Rattle.opcode_rows.proofs.JoinFacts.{length-table}
 
+-- an instruction of a row of the table is well formed if its operands are of the kinds of that row
 pub well_formed-at : (i : Instr) (row : Row) → slice_get table i.code.0 ≡ Some row → is_well_formed i ≡ is_formed row i
 unfolding is_well_formed
 well_formed-at i row at = ap (λ o. is_formed_by o i) at
 
+-- a code past the table is not well formed
 pub well_formed-past : (i : Instr) → ROWS ≤ i.code.0 → is_well_formed i ≡ false
 unfolding is_well_formed
 well_formed-past i le = ap (λ o. is_formed_by o i) (slice_get_past table i.code.0 (omega (arith, le, length-table)))

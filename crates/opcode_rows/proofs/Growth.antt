@@ -83,6 +83,7 @@ open-is (Known g) h = cc
 
 -- ---- spellings
 
+-- what an older table spells, a table that grew from it spells too
 pub spells-kept : (older table : List Row) (added : PrefixState → Bool) → Grows older table added → (bits : Bits) (ip : ℕ) (bytes : List ℕ) (i : Instr)
     → SpellsUnbounded older bits ip bytes i → SpellsUnbounded table bits ip bytes i
 spells-kept older table added g bits ip bytes i (row, at, s) = (row, g.kept i.code.0 row at, s)
@@ -167,6 +168,7 @@ reading-kept older table added g bits ip bytes unnamed Invalid h =
       ends_here = λ short goes. h.ends_here short (goes-back older table added g bits ip bytes unnamed short goes);
     }
 
+-- where no added row is concerned, both read alike
 pub reading-back : (older table : List Row) (added : PrefixState → Bool) → Grows older table added → (bits : Bits) (ip : ℕ) (bytes : List ℕ)
     → has_state added (front_of bits bytes) ≡ false → (r : Reading) → IsReading table bits ip bytes r → IsReading older bits ip bytes r
 reading-back older table added g bits ip bytes unnamed (Read d) h = reads-back older table added g bits ip bytes d.instr d.len unnamed h

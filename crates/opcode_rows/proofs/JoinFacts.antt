@@ -88,20 +88,24 @@ length-rows_in (x ∷ ss) h =
     let here = some-known (slice_get (part_table x.part) x.at) (and_parts (is_some (slice_get (part_table x.part) x.at)) (all_there ss) h).0 in
     rw here.1 (ap suc (length-rows_in ss (and_parts (is_some (slice_get (part_table x.part) x.at)) (all_there ss) h).1))
 
+-- there is a spot for each row
 pub length-spots : length spots ≡ ROWS
 unfolding spots
 length-spots = refl
 
+-- the table has ROWS rows
 pub length-table : length table ≡ ROWS
 unfolding table
 length-table = length-rows_in spots are_there ∙ length-spots
 
+-- each spot leads to its row of the table
 pub row-there : (k : ℕ) (s : Spot) → slice_get spots k ≡ Some s → (r : Row) × (slice_get (part_table s.part) s.at ≡ Some r) × (slice_get table k ≡ Some r)
 unfolding table
 row-there k s at = rows_in-get spots k s are_there at
 
 -- ---- a test of every row of every part is one of every row of the table
 
+-- a test holds of all rows of a list
 unfoldable pub all_rows : (Row → Bool) → List Row → Bool
 all_rows p [] = true
 all_rows p (r ∷ rs) = p r && all_rows p rs
@@ -122,6 +126,7 @@ slice_get-known (s ∷ ss) (suc k) lt = slice_get-known ss k (omega arith)
 some-inj : (q r : Row) → Some q ≡ Some r → q ≡ r
 some-inj q r e = cc
 
+-- what holds of the rows of each part holds of every row of the table
 pub in_each_part : (p : Row → Bool) → ((part : Part) → all_rows p (part_table part) ≡ true)
     → (code : ℕ) (row : Row) → slice_get table code ≡ Some row → p row ≡ true
 in_each_part p h code row at =

@@ -35,5 +35,6 @@ in_mode B64 row h =
     (and_parts (opcodes_are_kept B32 row) (opcodes_are_kept B64 row)
     (and_parts (opcodes_are_kept B16 row) (opcodes_are_kept B32 row && opcodes_are_kept B64 row) h).1).1
 
+-- the opcode bytes of a legacy row are no prefix, no escape byte and, in 64-bit mode, not 62
 pub kept-row : (bits : Bits) (code : ℕ) (row : Row) → slice_get table code ≡ Some row → IsTrue (opcodes_are_kept bits row)
 kept-row bits code row at = in_mode bits row (in_each_part kept each-kept code row at)

@@ -156,6 +156,7 @@ counts_up-found p n end (s ∷ ss) h at low high =
       | inr other ↦ (let same = behind-other (is_part p s.part) n other in later (omega arith))
     ]
 
+-- the rows of a part have their codes in the order of that part
 pub spots-ordered : (j k : ℕ) (p : Part) (a b : ℕ) → j < k → LiesAt p a j → LiesAt p b k → a < b
 spots-ordered j k p a b lt at at' = counts_up-ordered p 0 (length (part_table p)) spots (each-counts_up p) j k a b lt at at'
 

@@ -20,5 +20,6 @@ each-sound part.X87 = refl
 each-sound part.Sse = refl
 each-sound part.Vex = refl
 
+-- every row of the table is sound
 pub sound-row : (code : ℕ) (row : Row) → slice_get table code ≡ Some row → IsTrue (sound row)
 sound-row code row at = in_each_part sound each-sound code row at

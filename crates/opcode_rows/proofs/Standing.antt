@@ -24,6 +24,7 @@ pub kind-vex : (k : RowKind) → is_vex k ≡ (elim k [ kind.Legacy ↦ false | 
 kind-vex kind.Legacy = refl
 kind-vex kind.Vex = refl
 
+-- an opcode byte that a row allows is one of its opcode bytes
 pub opcode-held : (p : Plus) (first o : ℕ)
     → (elim p [ plus.Register ↦ nat_le first o && nat_lt o (first + 8) | _ ↦ o == first ]) ≡ true → opcode_holds p first o ≡ true
 opcode-held plus.Register first o h = h
@@ -35,6 +36,7 @@ abbrev pub VexSays : Row → Option Vex → Type 0
 VexSays row None = is_vex_row row ≡ false
 VexSays row (Some v) = (is_vex_row row ≡ true) × (v.map ≡ row.map)
 
+-- a VEX that fits a row has the fields that the row asks for
 pub vex-says : (bits : Bits) (row : Row) (ps : List ℕ) (vex : Option Vex) (o : ℕ) (m : Option ModRm) → vex_fits bits row ps vex o m ≡ true → VexSays row vex
 unfolding vex_fits
 vex-says bits row ps None o m h = not-true (is_vex_row row) (and_parts (not (is_vex_row row)) (opcode_is_kept bits row.map o m) h).0
@@ -48,6 +50,7 @@ line-is : (row : Row) (vex : Option Vex) → VexSays row vex → map_number (is_
 line-is row None h = ap (λ b. map_number b row.map) (kind-vex row.kind ∙ h)
 line-is row (Some v) h = ap (λ b. map_number b row.map) (kind-vex row.kind ∙ h.0) ∙ ap (λ m. map_number true m) (sym h.1)
 
+-- the row stands in the cell of that opcode byte
 pub stands : (row : Row) (vex : Option Vex) (o : ℕ) → VexSays row vex → opcode_fits row o ≡ true
     → stands_in row (map_number (is_some vex) (spelled_map row.map vex)) o ≡ true
 unfolding opcode_fits
@@ -56,6 +59,7 @@ stands row vex o says h =
     (eq-eqb (map_number (is_vex row.kind) row.map) (map_number (is_some vex) (spelled_map row.map vex)) (line-is row vex says))
     (opcode-held row.plus row.opcode o h)
 
+-- a row that allows an opcode byte with a ModRM allows the byte
 pub opcode-parts : (row : Row) (o : ℕ) (m : Option ModRm) → opcode_and_modrm_fit row o m ≡ true
     → (opcode_fits row o && (modrm_rule_fits row.plus row.modrm m && place_fits row m)) ≡ true
 unfolding opcode_and_modrm_fit

@@ -31,10 +31,12 @@ walked-kept : take VERSION1_ROWS woven_table ≡ first_rows
 unfolding woven_table woven spots integer_rows integer_flat x87_rows x87_flat sse_rows sse_flat vex_rows vex_flat first_rows first_legacy first_vex
 walked-kept = refl
 
+-- the rows of version 1 are the first rows of the table
 pub rows-kept : version1 ≡ first_rows
 unfolding version1
 rows-kept = ap (take VERSION1_ROWS) table-woven ∙ walked-kept
 
+-- and so are their names
 pub names-kept : version1_names ≡ first_names
 unfolding version1_names names first_names
 names-kept = refl
@@ -193,6 +195,7 @@ taken-lt (suc n) [] code row at = cc
 taken-lt (suc n) (r ∷ rs) zero row at = omega arith
 taken-lt (suc n) (r ∷ rs) (suc code) row at = let lt = taken-lt n rs code row at in omega arith
 
+-- a row below n is one of the first n rows
 pub get-taken : (n : ℕ) (rows : List Row) (code : ℕ) (row : Row) → slice_get rows code ≡ Some row → code < n → slice_get (take n rows) code ≡ Some row
 get-taken zero rows code row at lt = absurd (omega arith)
 get-taken (suc n) [] code row at lt = cc
@@ -209,6 +212,7 @@ unfolding is_added_state
 state-at state =
     added-at (kind_behind state.vex) state.map state.opcode ∙ ap (λ n. is_added_at n state.opcode) (behind-number state.vex state.map)
 
+-- the table grows from version 1 by rows that need an added state
 pub table-grows : Grows version1 table is_added_state
 unfolding version1
 table-grows =

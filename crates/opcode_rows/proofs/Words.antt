@@ -20,6 +20,7 @@ each-long part.X87 = refl
 each-long part.Sse = refl
 each-long part.Vex = refl
 
+-- a row has at most one operand that is memory or a far pointer
 pub one-long-row : (code : ℕ) (row : Row) → slice_get table code ≡ Some row → IsTrue (has_one_long_kind row)
 one-long-row code row at = in_each_part has_one_long_kind each-long code row at
 
@@ -34,6 +35,7 @@ are_names : all_names names ≡ true
 unfolding all_names is_name names
 are_names = refl
 
+-- there is a name for each row
 pub length-names : length names ≡ ROWS
 unfolding names
 length-names = refl
@@ -44,6 +46,7 @@ all_names-at [] k h lt = absurd (omega arith)
 all_names-at (n ∷ ns) zero h lt = (and_parts (is_name n) (all_names ns) h).0
 all_names-at (n ∷ ns) (suc k) h lt = all_names-at ns k (and_parts (is_name n) (all_names ns) h).1 (omega arith)
 
+-- each name has 1 to 16 lower-case letters and digits
 pub name-is_name : (code : ℕ) → code < ROWS → IsTrue (is_name (name_of code))
 unfolding name_of
 name-is_name code lt = all_names-at names code are_names (omega (arith, lt, length-names))

@@ -53,6 +53,7 @@ weave later part.X87 i x s v = with_item (first x) (later i (rest x) s v)
 weave later part.Sse i x s v = with_item (first s) (later i x (rest s) v)
 weave later part.Vex i x s v = with_item (first v) (later i x s (rest v))
 
+-- the rows that spots name, taken from four lists in order
 unfoldable pub woven : List Spot → List Row → List Row → List Row → List Row → List Row
 woven [] i x s v = []
 woven (spot ∷ ss) i x s v = weave (λ a b c d. woven ss a b c d) spot.part i x s v
@@ -103,6 +104,7 @@ unfoldable pub woven_table : List Row
 unfolding woven spots
 woven_table = woven spots integer_rows x87_rows sse_rows vex_rows
 
+-- the table is woven from its four parts
 pub table-woven : table ≡ woven_table
 unfolding table woven_table
 table-woven = is-woven spots 0 0 0 0 are_in_turn

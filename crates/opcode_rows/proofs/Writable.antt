@@ -22,5 +22,6 @@ each-writable part.X87 = refl
 each-writable part.Sse = refl
 each-writable part.Vex = refl
 
+-- every row of the table can be written
 pub writable-row : (code : ℕ) (row : Row) → slice_get table code ≡ Some row → IsTrue (writable row)
 writable-row code row at = in_each_part writable each-writable code row at

@@ -45,6 +45,7 @@ row_there : (o : Option Row) (i : Instr) → is_formed_by o i ≡ true → (row 
 row_there None i h = cc
 row_there (Some row) i h = (row, refl)
 
+-- the code of a well-formed instruction is below the number of rows
 pub code_in_table : (i : Instr) → IsTrue (is_well_formed i) → i.code.0 < ROWS
 unfolding is_well_formed
 code_in_table i h =

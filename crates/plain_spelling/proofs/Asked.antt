@@ -191,6 +191,7 @@ any-or p q (kind ∷ kinds) hp hq =
 
 -- ---- what a sound row says of its operands
 
+-- a sound row has four operand kinds
 pub four_kinds : (row : Row) → Sound row → length row.ops ≡ 4
 unfolding has_four_operands
 four_kinds row s = eqb-true (length row.ops) 4 s.four_operands
@@ -259,6 +260,7 @@ by_plus NoPlus o h = not-true o h
 by_plus PlusStack o h = not-true o h
 by_plus PlusRegister o h = h
 
+-- a sound row reads each part of its bytes for one operand at most
 pub proper : (row : Row) → Sound row → Proper row
 unfolding operands_are_proper
 proper row s =
@@ -397,20 +399,25 @@ pub asked_reg-at : (row : Row) (i : Instr) (n : ℕ) → Sound row → length i.
 asked_reg-at row i n s four h e =
     at_field reads_reg number_in_reg row i n s four h (λ k _ other. reg_vanishes _ _ other) (apart row s).reg e ∙ reg_shows _ _ e
 
+-- a row that does not read reg asks for the number 0 there
 pub asked_reg-none : (row : Row) (i : Instr) → reads_by reads_reg row ≡ false → number_asked_of number_in_reg row i ≡ 0
 asked_reg-none row i h = no_field reads_reg number_in_reg row i (λ k _ other. reg_vanishes _ _ other) h
 
+-- the number in vvvv is that of the operand that is read there
 pub asked_vvvv-at : (row : Row) (i : Instr) (n : ℕ) → Sound row → length i.ops ≡ 4 → n < 4 → is_vvvv (method_of (kind_at row n)) ≡ true → number_asked_of number_in_vvvv row i ≡ operand_number (operand_at i n)
 asked_vvvv-at row i n s four h e =
     at_field is_vvvv number_in_vvvv row i n s four h (λ k _ other. vvvv_vanishes _ _ other) (apart row s).vvvv e ∙ vvvv_shows _ _ e
 
+-- a row that does not read vvvv asks for the number 0 there
 pub asked_vvvv-none : (row : Row) (i : Instr) → reads_by is_vvvv row ≡ false → number_asked_of number_in_vvvv row i ≡ 0
 asked_vvvv-none row i h = no_field is_vvvv number_in_vvvv row i (λ k _ other. vvvv_vanishes _ _ other) h
 
+-- the number in the opcode byte is that of the operand that is read there
 pub asked_opcode-at : (row : Row) (i : Instr) (n : ℕ) → Sound row → length i.ops ≡ 4 → n < 4 → reads_opcode (method_of (kind_at row n)) ≡ true → number_asked_of number_in_opcode row i ≡ operand_number (operand_at i n)
 asked_opcode-at row i n s four h e =
     at_field reads_opcode number_in_opcode row i n s four h (λ k _ other. opcode_vanishes _ _ other) (apart row s).opcode e ∙ opcode_shows _ _ e
 
+-- a row that reads no register in the opcode byte asks for the number 0 there
 pub asked_opcode-none : (row : Row) (i : Instr) → reads_by reads_opcode row ≡ false → number_asked_of number_in_opcode row i ≡ 0
 asked_opcode-none row i h = no_field reads_opcode number_in_opcode row i (λ k _ other. opcode_vanishes _ _ other) h
 
@@ -420,6 +427,7 @@ asked_rm-at row i n s four h e =
     let a = apart row s in
     at_field reads_b number_in_rm row i n s four h (λ k _ other. rm_vanishes _ _ other) (count-or reads_rm reads_opcode row.ops (rm_or_opcode row s) a.rm a.opcode) e ∙ rm_shows _ _ e
 
+-- a row that does not read r/m asks for the number 0 there
 pub asked_rm-none : (row : Row) (i : Instr) → reads_by reads_rm row ≡ false → reads_by reads_opcode row ≡ false → number_asked_of number_in_rm row i ≡ 0
 asked_rm-none row i h k = no_field reads_b number_in_rm row i (λ k _ other. rm_vanishes _ _ other) (any-or reads_rm reads_opcode row.ops h k)
 
@@ -435,10 +443,12 @@ index_shows : (how : Method) (op : Operand) → number_in_index how op ≡ opera
 unfolding number_in_index
 index_shows how op = refl
 
+-- the number in the index of a SIB is that of the memory operand's index
 pub asked_index-at : (row : Row) (i : Instr) (n : ℕ) → Sound row → length i.ops ≡ 4 → n < 4 → IndexInRm row i → reads_rm (method_of (kind_at row n)) ≡ true → number_asked_of number_in_index row i ≡ operand_index_number (operand_at i n)
 asked_index-at row i n s four h none e =
     at_field reads_rm number_in_index row i n s four h (index_adds row i s none) (apart row s).rm e ∙ index_shows _ _
 
+-- a row that does not read r/m has no index
 pub asked_index-none : (row : Row) (i : Instr) → Sound row → IndexInRm row i → reads_by reads_rm row ≡ false → number_asked_of number_in_index row i ≡ 0
 asked_index-none row i s none h = no_field reads_rm number_in_index row i (index_adds row i s none) h
 
@@ -448,20 +458,24 @@ rm_operand-at row i n s four h e =
     let k = four_kinds row s in
     where-one reads_rm row.ops i.ops n (omega arith) (omega arith) (apart row s).rm e
 
+-- a row that does not read r/m has no operand there
 pub rm_operand-none : (row : Row) (i : Instr) → reads_by reads_rm row ≡ false → rm_operand row i ≡ AbsentOperand
 rm_operand-none row i h = where-none reads_rm row.ops i.ops (count_of-none reads_rm row.ops h)
 
+-- the operand with an address is the one that is read as such
 pub address_operand-at : (row : Row) (i : Instr) (n : ℕ) → Sound row → length i.ops ≡ 4 → n < 4 → reads_address (method_of (kind_at row n)) ≡ true → address_operand row i ≡ operand_at i n
 address_operand-at row i n s four h e =
     let k = four_kinds row s in
     let a = apart row s in
     where-one reads_address row.ops i.ops n (omega arith) (omega arith) (count-or reads_rm is_offset row.ops (rm_or_offset row s) a.rm a.offset) e
 
+-- a row that reads no address has no such operand
 pub address_operand-none : (row : Row) (i : Instr) → reads_by reads_rm row ≡ false → reads_by is_offset row ≡ false → address_operand row i ≡ AbsentOperand
 address_operand-none row i h k = where-none reads_address row.ops i.ops (count_of-none reads_address row.ops (any-or reads_rm is_offset row.ops h k))
 
 -- ---- conditions on each operand
 
+-- a test that holds of each of four operands holds at an index below four
 pub each-at : (p : ℕ → Bool) (n : ℕ) → n < 4 → each_operand p ≡ true → p n ≡ true
 each-at p zero h e = (and_parts (p 0) (p 1 && (p 2 && p 3)) e).0
 each-at p (suc zero) h e = (and_parts (p 1) (p 2 && p 3) (and_parts (p 0) (p 1 && (p 2 && p 3)) e).1).0
@@ -472,6 +486,7 @@ each-at p (suc (suc (suc (suc n)))) h e = absurd (omega arith)
 all_four : (a b c d : Bool) → a ≡ true → b ≡ true → c ≡ true → d ≡ true → (a && (b && (c && d))) ≡ true
 all_four a b c d ha hb hc hd = rw (ha, hb, hc, hd)
 
+-- and the other way round
 pub each-from : (p : ℕ → Bool) → ((n : ℕ) → n < 4 → p n ≡ true) → each_operand p ≡ true
 each-from p h = all_four (p 0) (p 1) (p 2) (p 3) (h 0 (omega arith)) (h 1 (omega arith)) (h 2 (omega arith)) (h 3 (omega arith))
 

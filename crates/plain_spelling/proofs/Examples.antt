@@ -47,10 +47,12 @@ unfoldable every_rule : Unit {0}
 unfolding forbids_vex failure first_failed_condition first_failing kind_suits is_variant_of is_allowed_in method_of exists_in file_of immediate_width fixed_number is_segment is_legacy_prefix is_prefix has_lock has_66 has_67 counting_repeat segment_named counting_segment counting_rex operand_size address_size bit_r bit_x bit_b bit_w state_size vex_last_byte vex_map_byte vex_bytes lead_bytes tail_bytes front_bytes bytes_of state_from state_of fits reads_mode reg_number rm_number vvvv_number index_number prefixes_fit legacy_class_fits vex_class_fits class_fits is_vex_of_mode is_opcode opcode_allows opcode_is_kept vex_fits opcode_fits modrm_rule_fits place_allows place_fits opcode_and_modrm_fit size_fits w_fits l_fits sizes_fit vvvv_fits needs_sib is_displacement_alone displacement_bytes address_fits immediate_bytes immediates_bytes lengths_fit is_memory_method lock_fits is_control_number register_fits destination_fits gather_fits nop_fits registers_fit vex_in_range modrm_in_range sib_in_range fields_in_range tail_fits state_fits meaning little_endian sign_extended segment_numbered general_register byte_register vector register_of disp_size_of base_16 index_16 memory_16 ip_or_absolute sib_base sib_index memory_with_sib memory_at_base memory_wide memory_of memory_absolute gather_memory last_byte_number near_target far_pointer memory_operand operand_by immediates_before own_immediate operand_at kept_repeat has_memory kept_address_size instr_of low_bytes is_extended_of distance same_register register_number is_low_byte_of_rex number_in_reg number_in_rm number_in_index number_in_vvvv number_in_opcode asks_r asks_x asks_b asks_rex_w asks_vex_w asks_66 asks_67 asked_repeat asked_rex class_pp asked_vex asked_opcode asked_used plain_front_of register_count has_address_size general_size pointer_size shown_size written_size form_of rm_of_one rm_of_two rm_of_short is_address_register is_base is_index scale_suits is_wide_size is_wide_shape is_shape index_named is_vector_index is_gather_base is_gather_shape shape_suits displacement_count wide_offers short_offers form_offers offers is_displacement displacement_suits mode_of_count scale_field base_bits index_bits plain_sib wide_needs_sib wide_fields alone_fields address_fields prefixes_of plain_size rm_fields fixed_rm plain_modrm plain_sib_of displacement_of operand_immediate immediate_at plain_immediates plain_len plain_next plain_spelling exists_in_mode is_of_kind is_not_nop kind_allows is_nameable gather_numbers_differ register_suits address_suits displacement_offered immediate_suits_how immediate_suits near_reaches address_reaches target_suits lock_suits repeat_suits prefixes_suit has_memory_operand told_size size_agrees is_size_of address_size_suits vector_in_index vector_in_reg vector_in_vvvv
 every_rule = tt
 
+-- a memory operand by its base, index, scale, displacement and displacement size
 abbrev pub memory : Option Register → Option Register → ℕ → ℕ → DispSize → Operand
 memory base index scale disp disp_size =
     MemOperand (record { base = base; index = index; scale = scale; disp = disp; disp_size = disp_size })
 
+-- an instruction by its operands and prefixes
 abbrev pub instr : Operand → Operand → Operand → Operand → Bool → Rep → Option Segment → Option Bits → Instr
 instr a b c d lock rep seg asize = record {
   code = record { 0 = 0 };
@@ -61,6 +63,7 @@ instr a b c d lock rep seg asize = record {
   asize = asize;
 }
 
+-- an instruction of two operands without prefixes
 abbrev pub two : Operand → Operand → Option Bits → Instr
 two a b asize = instr a b NoOperand NoOperand false NoRep None asize
 
@@ -69,38 +72,49 @@ pub data Outcome : Type 0 where
   Refused : NoSpelling → Outcome
   Written : List ℕ → Bool → Instr → Outcome
 
+-- the bytes of an instruction, or its first failing condition
 abbrev pub outcome_by : Bits → ℕ → Row → Instr → Option NoSpelling → Outcome
 outcome_by bits ip row i (Some why) = Refused why
 outcome_by bits ip row i None =
     Written (bytes_of row (plain_spelling bits ip row i)) (fits bits row (plain_spelling bits ip row i)) (meaning bits ip (record { 0 = 0 }) row (plain_spelling bits ip row i))
 
+-- the same, with the condition computed
 abbrev pub outcome : Bits → ℕ → Row → Instr → Outcome
 outcome bits ip row i = outcome_by bits ip row i (failure bits ip row i)
 
+-- ADD r/m32, r32
 abbrev pub add_o32 : Row
 add_o32 = row LegacyRow MapOne AnyClass 0x01 NoPlus AnyModRm AnyPlace O32 NoW NoL 7 KEv KGv KAbsent KAbsent 1
 
+-- ADD r/m16, r16
 abbrev pub add_o16 : Row
 add_o16 = row LegacyRow MapOne AnyClass 0x01 NoPlus AnyModRm AnyPlace O16 NoW NoL 7 KEv KGv KAbsent KAbsent 1
 
+-- ADD r/m64, r64
 abbrev pub add_o64 : Row
 add_o64 = row LegacyRow MapOne AnyClass 0x01 NoPlus AnyModRm AnyPlace O64 NoW NoL 4 KEv KGv KAbsent KAbsent 1
 
+-- ADD r/m32, imm8
 abbrev pub add_ibs : Row
 add_ibs = row LegacyRow MapOne AnyClass 0x83 NoPlus (Digit 0) AnyPlace O32 NoW NoL 7 KEv KIbs KAbsent KAbsent 1
 
+-- MOV r/m8, r8
 abbrev pub mov_byte : Row
 mov_byte = row LegacyRow MapOne AnyClass 0x88 NoPlus AnyModRm AnyPlace NoSize NoW NoL 7 KEb KGb KAbsent KAbsent 0
 
+-- JMP rel8
 abbrev pub jmp_short : Row
 jmp_short = row LegacyRow MapOne AnyClass 0xEB NoPlus NoModRm AnyPlace O64 NoW NoL 4 KJb KAbsent KAbsent KAbsent 20
 
+-- VADDPS xmm, xmm, xmm/m128
 abbrev pub vaddps : Row
 vaddps = row VexRow M0f Np 0x58 NoPlus AnyModRm AnyPlace NoSize Wig L128 7 KVx KHx KWx KAbsent 0
 
+-- VGATHERDPS xmm, vm32x, xmm
 abbrev pub vgatherdps : Row
 vgatherdps = row VexRow M0f38 P66 0x92 NoPlus AnyModRm OnlyMemory NoSize W0 L128 7 KVx KGatherL KHx KAbsent 0
 
+-- the operand EAX
 abbrev pub eax : Operand
 eax = Reg (R32 0)
 
@@ -181,6 +195,7 @@ abbrev pub gather_of : ℕ → Option Register → Register → Instr
 gather_of destination index mask =
     instr (Reg (Xmm destination)) (memory (Some (R64 0)) index 1 0 D0) (Reg mask) NoOperand false NoRep None (Some B64)
 
+-- a gather by its index number, base and mask
 abbrev pub gather : ℕ → Option Register → Register → Outcome
 gather destination index mask = outcome B64 0 vgatherdps (gather_of destination index mask)
 

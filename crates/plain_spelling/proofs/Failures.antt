@@ -100,6 +100,7 @@ suits-tail bits ip row i s =
     (rw (unless-all (prefixes_suit row i) cause.Prefix s.prefixes)
     (unless-all (address_size_suits bits row i) cause.AddressSize s.address_size)))))))
 
+-- an instruction that suits the row and is short enough fails no condition
 pub suits-failure : (bits : Bits) (ip : ℕ) (row : Row) (i : Instr) → Suits bits ip row i → is_short bits row i ≡ true → failure bits ip row i ≡ None
 unfolding failure
 suits-failure bits ip row i s short =

@@ -40,10 +40,12 @@ vex_for row i = record {
   pp = class_pp row.class;
 }
 
+-- a VEX row is spelled with the VEX that is made for it
 pub vex_of_vex : (row : Row) (i : Instr) → is_vex_row row ≡ true → asked_vex row i ≡ Some (vex_for row i)
 unfolding asked_vex
 vex_of_vex row i h = rw h refl
 
+-- a legacy row is spelled without one
 pub vex_of_legacy : (row : Row) (i : Instr) → is_vex_row row ≡ false → asked_vex row i ≡ None
 unfolding asked_vex
 vex_of_legacy row i h = rw h refl
@@ -69,6 +71,7 @@ vex_row_from row h =
       map = not-true (is_map_one row.map) (and_parts (not (is_map_one row.map)) (not (is_fixed_rule row.modrm) && bytes) h5).0;
     }
 
+-- the parts of a sound VEX row
 pub vex_row : (row : Row) → Sound row → is_vex_row row ≡ true → VexRow row
 unfolding kind_is_proper
 vex_row row s vex = vex_row_from row (rw vex at s.kind)

@@ -66,6 +66,7 @@ none-by size next method.Pointer n (Far x y) s e = absurd (omega (arith, s, e))
 none-by size next method.LastByte n (Reg r) s e = absurd (omega (arith, s, e))
 none-by size next _ n _ s e = refl
 
+-- an operand that has no bytes of the immediates adds none
 pub no_immediate : (size : Bits) (row : Row) (i : Instr) (next n : ℕ) → immediate_bytes size (kind_at row n) ≡ 0 → immediate_at size row i next n ≡ []
 unfolding immediate_at
 no_immediate size row i next n e = none-by size next (method_of (kind_at row n)) _ (operand_at i n) (bytes_suit size (kind_at row n)) e

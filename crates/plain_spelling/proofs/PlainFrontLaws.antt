@@ -93,10 +93,12 @@ rex_of_w false false false false true l = refl
 rex_of_w false false false false false true = refl
 rex_of_w false false false false false false = refl
 
+-- W of the plain REX is set if the row asks for it, and never on a VEX row
 pub plain_rex_w : (row : Row) (i : Instr) → rex_bit 3 (asked_rex row i) ≡ (if is_vex_row row then false else asks_rex_w row)
 unfolding asked_rex
 plain_rex_w row i = rex_of_w (is_vex_row row) (asks_rex_w row) (asks_r row i) (asks_x row i) (asks_b row i) (asks_low_byte i.ops)
 
+-- the operand size of the plain front is that of the plain spelling
 pub plain_state_size : (bits : Bits) (row : Row) (i : Instr) → state_size bits row (plain_front_of bits row i) ≡ plain_size bits row
 unfolding state_size plain_front_of plain_size
 plain_state_size bits row i = ap (λ (w : Bool). operand_size bits row w (asks_66 bits row)) (plain_rex_w row i)

@@ -55,12 +55,14 @@ suits-by : (bits : Bits) (ip : ℕ) (row : Row) (i : Instr) (n : ℕ) (op : Oper
 unfolding operand_suits kind_suits is_operand_nameable address_suits displacement_offered immediate_suits target_suits
 suits-by bits ip row i n op e = ap (suits_as bits ip row i n) (sym e)
 
+-- an absent operand suits if the row has none there
 pub absent-suits : (bits : Bits) (ip : ℕ) (row : Row) (i : Instr) (n : ℕ) → operand_at i n ≡ Absent → is_variant_at row n Absent ≡ operand_suits bits ip row i n
 absent-suits bits ip row i n e =
     let none : fits_size bits row n Absent ≡ true = immediate-none _ _ _ Absent refl refl in
     let all : is_variant_at row n Absent ≡ suits_as bits ip row i n Absent = rw none (and-true _) in
     all ∙ suits-by bits ip row i n Absent e
 
+-- a register suits as the conditions on registers say
 pub register-suits : (bits : Bits) (ip : ℕ) (row : Row) (i : Instr) (n : ℕ) (r : Register) → operand_at i n ≡ Reg r → is_variant_at row n (Reg r) ≡ true
     → is_nameable bits row i n r ≡ operand_suits bits ip row i n
 register-suits bits ip row i n r e v =
@@ -68,6 +70,7 @@ register-suits bits ip row i n r e v =
     let all : is_nameable bits row i n r ≡ suits_as bits ip row i n (Reg r) = rw v (rw none (and-true _)) in
     all ∙ suits-by bits ip row i n (Reg r) e
 
+-- a memory operand suits as the conditions on addresses say
 pub memory-suits : (bits : Bits) (ip : ℕ) (row : Row) (i : Instr) (n : ℕ) (m : Mem) → operand_at i n ≡ MemOperand m → is_variant_at row n (MemOperand m) ≡ true
     → (shape_suits bits row (method_of (kind_at row n)) (file_of (kind_at row n)) m && (displacement_suits (written_size bits i.asize m) (method_of (kind_at row n)) m
     && address_reaches (plain_next bits ip row i) m)) ≡ operand_suits bits ip row i n
@@ -77,6 +80,7 @@ memory-suits bits ip row i n m e v =
     && address_reaches (plain_next bits ip row i) m)) ≡ suits_as bits ip row i n (MemOperand m) = rw v (rw none refl) in
     all ∙ suits-by bits ip row i n (MemOperand m) e
 
+-- a near target suits as the conditions on targets say
 pub near-suits : (bits : Bits) (ip : ℕ) (row : Row) (i : Instr) (n target : ℕ) → operand_at i n ≡ Near target → is_variant_at row n (Near target) ≡ true
     → near_reaches (plain_size bits row) (plain_next bits ip row i) (immediate_bytes (plain_size bits row) (kind_at row n)) target ≡ operand_suits bits ip row i n
 near-suits bits ip row i n target e v =

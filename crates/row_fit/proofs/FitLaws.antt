@@ -76,6 +76,7 @@ pub record RangesBehind (s : Spelling) : Type 0 where
   pub disp : are_bytes s.disp.items ≡ true
   pub imm : are_bytes s.imm.items ≡ true
 
+-- the fields of a spelling in range, one by one
 pub ranges_behind : (s : Spelling) → fields_in_range s ≡ true → RangesBehind s
 unfolding fields_in_range
 ranges_behind s h =
@@ -98,6 +99,7 @@ ranges_behind s h =
 pub modrm_range : (s : Spelling) → fields_in_range s ≡ true → modrm_in_range s.modrm ≡ true
 modrm_range s h = (ranges_behind s h).modrm
 
+-- so the fields of its SIB are in range
 pub sib_range : (s : Spelling) → fields_in_range s ≡ true → sib_in_range s.sib ≡ true
 sib_range s h = (ranges_behind s h).sib
 

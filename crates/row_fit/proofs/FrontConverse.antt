@@ -30,6 +30,7 @@ abbrev ProperIfAny : Bits → List ℕ → Option Vex → Map → List ℕ → T
 ProperIfAny bits ps vex map [] = Unit {0}
 ProperIfAny bits ps vex map (o ∷ rest) = LeadIsProper bits ps vex map o rest
 
+-- a known front has one state
 pub same_state : (a b : PrefixState) → Known a ≡ Known b → a ≡ b
 same_state a b h = cc
 
@@ -352,6 +353,7 @@ unfolding prefix_run
 run_all-step bits b bytes true h rest = rw h (rw h rest)
 run_all-step bits b bytes false h rest = rw h
 
+-- a run of prefixes has prefixes alone
 pub run_all : (bits : Bits) (bytes : List ℕ) → list_all (is_prefix bits) (prefix_run bits bytes) ≡ true
 unfolding prefix_run
 run_all bits [] = refl
@@ -362,6 +364,7 @@ unfolding prefix_run
 run_front-step bits b bytes true h rest = rw h (ap (λ xs. b ∷ xs) rest)
 run_front-step bits b bytes false h rest = rw h
 
+-- and is the front of the bytes
 pub run_front : (bits : Bits) (bytes : List ℕ) → bytes ≡ prefix_run bits bytes ++ drop (length (prefix_run bits bytes)) bytes
 unfolding prefix_run
 run_front bits [] = refl

@@ -29,6 +29,7 @@ prefix_run-append bits (x ∷ ps) b more all stop =
     let rest = prefix_run-append bits ps b more (and_parts (is_prefix bits x) (list_all (is_prefix bits) ps) all).1 stop in
     rw here (ap (λ xs. x ∷ xs) rest)
 
+-- the front of bytes behind a run of prefixes is decided by the byte that ends the run
 pub long_front-run : (bits : Bits) (ps : List ℕ) (b : ℕ) (more : List ℕ) → list_all (is_prefix bits) ps ≡ true → is_prefix bits b ≡ false → long_front bits (ps ++ (b ∷ more)) ≡ lead_front bits ps (b ∷ more)
 unfolding long_front
 long_front-run bits ps b more all stop =
@@ -67,6 +68,7 @@ pub lead_front-0f38 : (bits : Bits) (ps : List ℕ) (b : ℕ) (more : List ℕ) 
 unfolding lead_front opcode_front escape_front
 lead_front-0f38 bits ps b more = refl
 
+-- behind 0F 3A the opcode byte is one of that map
 pub lead_front-0f3a : (bits : Bits) (ps : List ℕ) (b : ℕ) (more : List ℕ) → lead_front bits ps (0x0F ∷ (0x3A ∷ (b ∷ more))) ≡ Known (state_from bits ps (length ps + 2) None M0f3a b)
 unfolding lead_front opcode_front escape_front
 lead_front-0f3a bits ps b more = refl
@@ -132,6 +134,7 @@ map_number-below M0f = omega arith
 map_number-below M0f38 = omega arith
 map_number-below M0f3a = omega arith
 
+-- a map other than the first has its number in a VEX
 pub map_numbered-back : (map : Map) → is_map_one map ≡ false → map_numbered (map_number map) ≡ Some map
 unfolding map_numbered
 map_numbered-back One h = cc
@@ -151,18 +154,21 @@ long_vex-back v three hv hp =
 
 -- ---- bytes that are no prefix
 
+-- 0F is no prefix
 pub escape_is_no_prefix : (bits : Bits) → is_prefix bits 0x0F ≡ false
 unfolding is_prefix is_legacy_prefix is_segment
 escape_is_no_prefix B16 = refl
 escape_is_no_prefix B32 = refl
 escape_is_no_prefix B64 = refl
 
+-- C4 is no prefix
 pub c4_is_no_prefix : (bits : Bits) → is_prefix bits 0xC4 ≡ false
 unfolding is_prefix is_legacy_prefix is_segment
 c4_is_no_prefix B16 = refl
 c4_is_no_prefix B32 = refl
 c4_is_no_prefix B64 = refl
 
+-- C5 is no prefix
 pub c5_is_no_prefix : (bits : Bits) → is_prefix bits 0xC5 ≡ false
 unfolding is_prefix is_legacy_prefix is_segment
 c5_is_no_prefix B16 = refl
@@ -366,6 +372,7 @@ pub record FrontFits (bits : Bits) (row : Row) (s : Spelling) : Type 0 where
   pub vex_range : vex_in_range s.vex ≡ true
   pub modrm_range : modrm_in_range s.modrm ≡ true
 
+-- the front of a fitting spelling fits
 pub front_fits : (bits : Bits) (row : Row) (s : Spelling) → fits bits row s ≡ true → FrontFits bits row s
 unfolding fits prefixes_fit fields_in_range
 front_fits bits row s h =

@@ -21,6 +21,7 @@ or_none : (a b : Bool) → (a || b) ≡ false → (a ≡ false) × (b ≡ false)
 or_none true b h = cc
 or_none false b h = (refl, h)
 
+-- a test that holds of all numbers of a list holds at an index
 pub all_at : (p : ℕ → Bool) (xs : List ℕ) (i : ℕ) → i < length xs → list_all p xs ≡ true → p (get_or xs i 0) ≡ true
 all_at p xs i h all = elim (cases_Bool (p (get_or xs i 0))) [
   | inl yes1 ↦ yes1
@@ -36,6 +37,7 @@ none_at p (x ∷ xs) (suc i) h none = none_at p xs i (omega arith) (or_none (p x
 abbrev pub eight : ℕ → List ℕ
 eight r = r ∷ (r + 1) ∷ (r + 2) ∷ (r + 3) ∷ (r + 4) ∷ (r + 5) ∷ (r + 6) ∷ (r + 7) ∷ []
 
+-- the eight numbers from r on, by index
 pub eight_at : (r k : ℕ) → k < 8 → get_or (eight r) k 0 ≡ r + k
 eight_at r zero h = omega arith
 eight_at r (suc zero) h = omega arith

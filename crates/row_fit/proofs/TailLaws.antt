@@ -68,6 +68,7 @@ same_modrm_option (Some m) (Some n) more others s hm hn h =
     let heads : modrm_byte m ≡ modrm_byte n = cc in
     (ap (λ x. Some x) (modrm_from_byte m n hm hn heads), cc)
 
+-- equal bytes that begin with the same SIB, or with none, have the same rest
 pub same_sib_option : (m n : Option Sib) (more others : List ℕ) → is_some m ≡ is_some n → sib_in_range m ≡ true → sib_in_range n ≡ true → sib_bytes m ++ more ≡ sib_bytes n ++ others → (m ≡ n) × (more ≡ others)
 same_sib_option None None more others s hm hn h = (refl, h)
 same_sib_option None (Some n) more others s hm hn h = cc

@@ -17,6 +17,7 @@ use Rattle.row_lists.specs.declared.Span.{Span}
 use Rattle.row_lists.specs.Cells.{map_index, line_number, cell_of, cell_span, IsRunOf}
 use Rattle.row_lists.specs.Runs.{run_at, line_runs, first_number, spans_fit, coded_cell}
 
+-- the index of a map is below 4
 pub map_index-lt : (m : Map) → map_index m < 4
 map_index-lt One = lit< tt
 map_index-lt M0f = lit< tt

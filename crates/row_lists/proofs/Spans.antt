@@ -29,6 +29,7 @@ span-there k m op spans rows h byte =
     run-there (cell_span spans (map_index m) op) (at_opcode op cs)
     (below-at 256 (λ o. run_at (cell_span spans (map_index m) o) (at_opcode o cs)) op here byte)
 
+-- spans that pass the computed test say where the rows of each cell lie
 pub spans-of_fit : (k : RowKind) (spans : List (List Span)) (rows : List Row) → spans_fit k spans rows ≡ true → AreCellSpansOf k rows spans
 spans-of_fit k spans rows h m op byte =
     let s = span-there k m op spans rows h byte in

@@ -52,9 +52,11 @@ stack-complete shape b true i proper h = inr (eqb-true (b % 8) 0 proper, (imm_te
 pub high-small : (b : ℕ) → b < 256 → b / 16 < 16
 high-small b h = omega arith
 
+-- the low digit of a byte is below 16
 pub low-small : (b : ℕ) → b % 16 < 16
 low-small b = omega arith
 
+-- a byte is its two hexadecimal digits
 pub whole-byte : (b : ℕ) → (b / 16) * 16 + b % 16 ≡ b
 whole-byte b = omega arith
 
@@ -237,6 +239,7 @@ vex-complete m c b l w r st i small range stack fixed has_l has_w vex_class own 
 
 -- ---- whole shapes
 
+-- the parts of a proper legacy shape
 pub from-legacy : (s : RowShape) → is_legacy_proper s ≡ true → (lacks_l s.l ≡ true) × (lacks_w s.w ≡ true) × (imm_allowed Legacy s.imm ≡ true) × (is_opcode_of_map s.map s.opcode ≡ true)
 unfolding is_legacy_proper
 from-legacy s h =
@@ -258,6 +261,7 @@ pub record VexParts (s : RowShape) : Type 0 where
   pub fixed : not (is_fixed s.modrm) ≡ true
   pub own : not (is_one_byte_map s.map) ≡ true
 
+-- the parts of a proper VEX shape
 pub from-vex : (s : RowShape) → is_vex_proper s ≡ true → VexParts s
 unfolding is_vex_proper
 from-vex s h =
@@ -281,22 +285,27 @@ from-vex s h =
       own = (and_parts (not (is_fixed s.modrm)) (not (is_one_byte_map s.map)) r6).1;
     }
 
+-- a shape that lacks L has none
 pub no-l : (l : LBit) → lacks_l l ≡ true → l ≡ lbit.None
 no-l lbit.None h = refl
 no-l _ h = absurd cc
 
+-- a shape that lacks W has none
 pub no-w : (w : WBit) → lacks_w w ≡ true → w ≡ wbit.None
 no-w wbit.None h = refl
 no-w _ h = absurd cc
 
+-- a shape without a size word has none
 pub no-size : (z : SizeWord) → is_no_size_word z ≡ true → z ≡ word.None
 no-size word.None h = refl
 no-size _ h = absurd cc
 
+-- a shape without an added register has none
 pub no-plus : (p : PlusWord) → is_no_plus_word p ≡ true → p ≡ added.None
 no-plus added.None h = refl
 no-plus _ h = absurd cc
 
+-- a number that tests below 256 is below 256
 pub small-opcode : (b : ℕ) → nat_lt b 256 ≡ true → b < 256
 small-opcode b h = grind arith
 

@@ -36,6 +36,7 @@ digit_then p L text s = (d : ℕ) × (p d ≡ true) × (d < 16) × ((rest : List
 pub value-of_digit : (d : ℕ) → d < 16 → hex_value (digit_text d) ≡ d
 value-of_digit d h = grind arith
 
+-- a hexadecimal digit is the text of its value
 pub digit-of_value : (c : ℕ) → hex_value c < 16 → digit_text (hex_value c) ≡ c
 digit-of_value c h = grind arith
 
@@ -45,6 +46,7 @@ head-of c d xs ys e = cc
 tail-of : (c d : ℕ) (xs ys : List ℕ) → (c ∷ xs) ≡ (d ∷ ys) → xs ≡ ys
 tail-of c d xs ys e = cc
 
+-- the empty text does not begin with a byte
 pub nothing-before : (c : ℕ) (rest : List ℕ) → [] ≡ c ∷ rest → ⊥
 nothing-before c rest e = absurd cc
 
@@ -58,6 +60,7 @@ same-value c d h e = ap hex_value e ∙ value-of_digit d h
 true-is-not-false : true ≡ false → ⊥
 true-is-not-false e = absurd cc
 
+-- reading a digit and then the rest is right for the texts that begin with such a digit
 pub right-digit : (p : ℕ → Bool) (L : ℕ → Language) (next : ℕ → List ℕ → Answer) (c : ℕ) (text : List ℕ)
     → ((d : ℕ) → p d ≡ true → d < 16) → IsInhabited (digit_then p L)
     → ((d : ℕ) → p d ≡ true → (t : List ℕ) → IsRight (L d) t (next d t))
@@ -88,6 +91,7 @@ some-imm_word : (k : RowKind) → has_some (imm_words k) ≡ true
 some-imm_word Legacy = refl
 some-imm_word Vex = refl
 
+-- the immediates are read rightly
 pub right-imm : (s : RowShape) (text : List ℕ) → IsRight (imm_texts s) text (read_imm s text)
 unfolding read_imm
 right-imm s text =
@@ -121,6 +125,7 @@ right-stack_by s b text true e = right-better (imm_texts (record s { stack = fal
 right-stack_by s b text false e = right-or_nothing (imm_texts (record s { stack = false })) (stack_word_texts s b) text
     (read_imm (record s { stack = false }) text) (no-stack_word s b e) (right-imm (record s { stack = false }) text)
 
+-- a stack number is read rightly
 pub right-stack : (s : RowShape) (b : ℕ) (text : List ℕ) → IsRight (stack_texts s b) text (read_stack s b text)
 unfolding read_stack
 right-stack s b text = right-stack_by s b text (b % 8 == 0) refl
@@ -137,9 +142,11 @@ some-digit p L d e h some = (digit_text d ∷ some.0, (some.1.0, (d, e, h, (some
 abbrev pub any_digit : ℕ → Bool
 any_digit d = nat_lt d 16
 
+-- the value is a digit of a ModRM field
 abbrev pub octal_digit : ℕ → Bool
 octal_digit d = nat_lt d 8
 
+-- the value is a digit of a register number
 abbrev pub register_digit : ℕ → Bool
 register_digit d = nat_le 12 d && nat_lt d 16
 
@@ -204,9 +211,11 @@ fixed_of Vex s = nothing
 abbrev pub any_texts : RowShape → Language
 any_texts s = word_then (codes " /r") (imm_texts (record s { modrm = rule.Any }))
 
+-- the texts of a shape that has a slash and ModRM
 abbrev pub slash_texts : RowShape → Language
 slash_texts s = word_then (codes " /") (octal_texts s)
 
+-- the texts of a shape without ModRM
 abbrev pub plain_texts : RowShape → Language
 plain_texts s = either_of (imm_texts (record s { modrm = rule.No })) (any_texts s)
 
@@ -225,6 +234,7 @@ right-later Legacy s text = right-better (slash_texts s) (fixed_of Legacy s) tex
     (right-word (codes " ") (fixed_texts s) (read_fixed s) text (right-fixed s))
 right-later Vex s text = right-or_nothing (slash_texts s) (fixed_of Vex s) text (read_slash_digit s text) (λ t x m. m) (right-slash s text)
 
+-- ModRM is read rightly
 pub right-modrm : (s : RowShape) (text : List ℕ) → IsRight (modrm_texts s) text (read_modrm s text)
 unfolding read_modrm
 right-modrm s text =
@@ -235,6 +245,7 @@ right-modrm s text =
 
 -- ---- an added register, and the opcode byte
 
+-- the texts of what is added to the opcode byte
 abbrev pub plus_texts : RowShape → Language
 plus_texts s = one_of (plus_words s.kind) (λ p. word_then (plus_text p) (modrm_texts (record s { plus_word = p })))
 
@@ -242,6 +253,7 @@ some-plus_word : (k : RowKind) → has_some (plus_words k) ≡ true
 some-plus_word Legacy = refl
 some-plus_word Vex = refl
 
+-- what is added to the opcode byte is read rightly
 pub right-plus : (s : RowShape) (text : List ℕ) → IsRight (plus_texts s) text (read_plus s text)
 unfolding read_plus
 right-plus s text =
@@ -257,9 +269,11 @@ opcode_digit s high low = nat_lt low 16 && is_opcode_of s (high * 16 + low)
 opcode-small : (s : RowShape) (high low : ℕ) → opcode_digit s high low ≡ true → low < 16
 opcode-small s high low e = grind arith
 
+-- the texts that follow the first digit of the opcode byte
 abbrev pub opcode_low_texts : RowShape → ℕ → Language
 opcode_low_texts s high = digit_then (opcode_digit s high) (λ low. plus_texts (record s { opcode = high * 16 + low }))
 
+-- numbers that are not equal test as different
 pub different : (a b : ℕ) → (a ≡ b → ⊥) → (a == b) ≡ false
 different a b h = different_by (a == b) refl
   where
@@ -296,6 +310,7 @@ opcode_texts s = digit_then any_digit (opcode_low_texts s)
 some-opcode : (s : RowShape) → IsInhabited (opcode_texts s)
 some-opcode s = some-digit any_digit (opcode_low_texts s) 0 refl (lit< tt) (some-opcode_low s 0 (lit< tt))
 
+-- the opcode byte and what follows it are read rightly
 pub right-opcode : (s : RowShape) (text : List ℕ) → IsRight (opcode_texts s) text (read_opcode s text)
 unfolding read_opcode
 right-opcode s [] = right-digit_end any_digit (opcode_low_texts s) (some-opcode s)

@@ -33,19 +33,24 @@ abbrev pub rest_of : List ℕ → List ℕ
 rest_of [] = []
 rest_of (x ∷ xs) = xs
 
+-- the first byte of a text
 abbrev pub at0 : List ℕ → ℕ
 at0 [] = 0
 at0 (x ∷ xs) = x
 
+-- the second byte of a text
 abbrev pub at1 : List ℕ → ℕ
 at1 xs = at0 (rest_of xs)
 
+-- the third byte of a text
 abbrev pub at2 : List ℕ → ℕ
 at2 xs = at1 (rest_of xs)
 
+-- the fourth byte of a text
 abbrev pub at3 : List ℕ → ℕ
 at3 xs = at2 (rest_of xs)
 
+-- the fifth byte of a text
 abbrev pub at4 : List ℕ → ℕ
 at4 xs = at3 (rest_of xs)
 
@@ -59,6 +64,7 @@ same-behind word_of v x ys zs e h = behind-word (word_of v) ys zs (h ∙ ap (λ 
 
 -- ---- immediates
 
+-- the immediates that a text ends with
 abbrev pub imm_of : List ℕ → ImmWord
 imm_of t =
     if at0 t == 0 then imm.None
@@ -76,6 +82,7 @@ same-imm i j e = sym (imm-back i) ∙ ap imm_of e ∙ imm-back j
 
 -- ---- a stack number
 
+-- a text ends with a stack number
 abbrev pub stack_of : List ℕ → Bool
 stack_of t = at0 t == 43
 
@@ -94,6 +101,7 @@ same-stack st su i j e =
 
 -- ---- ModRM
 
+-- the ModRM rule that a text states
 abbrev pub rule_of : List ℕ → ModRmRule
 rule_of t =
     if at0 t == 0 then rule.No
@@ -152,6 +160,7 @@ pub record Tail : Type 0 where
   pub stack : Bool
   pub imm : ImmWord
 
+-- the text of what follows the opcode byte
 abbrev pub tail_text : Tail → List ℕ
 tail_text t = modrm_text t.rule ++ (stack_text t.stack ++ imm_text t.imm)
 
@@ -173,6 +182,7 @@ same-tail t u ht hu e =
 same-digit : (d e : ℕ) → d < 16 → e < 16 → digit_text d ≡ digit_text e → d ≡ e
 same-digit d e hd he h = sym (value-of_digit d hd) ∙ ap hex_value h ∙ value-of_digit e he
 
+-- what a text adds to the opcode byte
 abbrev pub plus_of : List ℕ → PlusWord
 plus_of t =
     if at0 t == 43 then (if at2 t == 98 then added.Rb else (if at2 t == 119 then added.Rw else (if at2 t == 100 then added.Rd else added.Ro))) else added.None
@@ -192,6 +202,7 @@ plus-back added.Rw t h = refl
 plus-back added.Rd t h = refl
 plus-back added.Ro t h = refl
 
+-- the text from the opcode byte on
 abbrev pub opcode_text : ℕ → PlusWord → Tail → List ℕ
 opcode_text b p t = byte_text b ++ (plus_text p ++ tail_text t)
 
@@ -259,6 +270,7 @@ no-opcode-3a : is_opcode_of_map map.M0f 0x3A ≡ false
 unfolding is_opcode_of_map
 no-opcode-3a = refl
 
+-- the map that a text begins with
 abbrev pub map_of : List ℕ → Map
 map_of t =
     if at0 t == 48 && at1 t == 70 then (if at3 t == 51 && at4 t == 56 then map.M0f38 else (if at3 t == 51 && at4 t == 65 then map.M0f3a else map.M0f)) else map.One
@@ -276,6 +288,7 @@ map_part m b p t = map_text m ++ opcode_text b p t
 above : (d c : ℕ) → d < 16 → 70 < c → (digit_text d == c) ≡ false
 above d c h lt = let most : digit_text d ≤ 70 = digit-most d h in differs (digit_text d) c (λ e. absurd (omega (arith, e, most)))
 
+-- the size word that a text begins with
 abbrev pub size_of : List ℕ → SizeWord
 size_of t =
     if at0 t == 111 then (if at1 t == 49 then word.O16 else (if at1 t == 51 then word.O32 else word.O64)) else (if at0 t == 82 then word.RexW else word.None)
@@ -289,6 +302,7 @@ size-back _ m b p t h = refl
 abbrev pub size_part : SizeWord → Map → ℕ → PlusWord → Tail → List ℕ
 size_part z m b p t = size_text z ++ map_part m b p t
 
+-- the prefixes that a text begins with
 abbrev pub class_of : List ℕ → Class
 class_of t =
     if at0 t == 78 then (if at1 t == 80 then class.Np else (if at2 t == 120 then class.Nfx else class.Nf3))
@@ -317,6 +331,7 @@ no-v _ z m b p t h = refl
 
 -- ---- the words of a VEX text
 
+-- W of a VEX text
 abbrev pub w_of : List ℕ → WBit
 w_of t = if at2 t == 48 then wbit.W0 else (if at2 t == 49 then wbit.W1 else wbit.Wig)
 
@@ -326,6 +341,7 @@ w-back wbit.W0 rest h = refl
 w-back wbit.W1 rest h = refl
 w-back wbit.Wig rest h = refl
 
+-- the map of a VEX text
 abbrev pub vex_map_of : List ℕ → Map
 vex_map_of t = if at3 t == 46 then map.M0f else (if at4 t == 56 then map.M0f38 else map.M0f3a)
 
@@ -338,6 +354,7 @@ vex_map-back map.M0f wbit.Wig rest h k = refl
 vex_map-back map.M0f38 x rest h k = refl
 vex_map-back map.M0f3a x rest h k = refl
 
+-- the field pp of a VEX text
 abbrev pub pp_of : List ℕ → Class
 pp_of t = if at1 t == 54 then class.P66 else (if at1 t == 48 then class.Np else (if at2 t == 51 then class.F3 else class.F2))
 
@@ -353,6 +370,7 @@ pp-back class.P66 m rest h k = refl
 pp-back class.F3 m rest h k = refl
 pp-back class.F2 m rest h k = refl
 
+-- L of a VEX text
 abbrev pub l_of : List ℕ → LBit
 l_of t = if at0 t == 49 then lbit.L128 else (if at0 t == 50 then lbit.L256 else (if at1 t == 73 then lbit.Lig else lbit.Lz))
 
@@ -365,6 +383,7 @@ l-back lbit.Lz rest h = refl
 
 -- ---- whole shapes
 
+-- what follows the opcode byte of a shape
 abbrev pub tail_of_shape : RowShape → Tail
 tail_of_shape s = record { rule = s.modrm; stack = s.stack; imm = s.imm }
 

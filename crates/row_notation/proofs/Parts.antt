@@ -33,6 +33,7 @@ full k m c z b p l w r st i =
 
 -- ---- a choice among words
 
+-- a test holds of all values of a list
 abbrev pub all_pass : {V : Type 0} → (V → Bool) → List V → Bool
 all_pass p [] = true
 all_pass p (v ∷ vs) = p v && all_pass p vs
@@ -291,6 +292,7 @@ vex-text-of m c l w text s rest has_l has_w vex_class own_map f e =
       written = sym (e ∙ ap (λ x. codes "VEX." ++ (l_text l ++ (pp_text c ++ (vex_map_text m ++ (w_text w ++ x))))) (f.text_is ∙ ap (λ x. byte_text f.opcode ++ (plus_text f.plus ++ x)) f.later.text_is));
     })
 
+-- the test that every value passes
 abbrev pub anything : {V : Type 0} → V → Bool
 anything v = true
 
@@ -302,12 +304,15 @@ class-sound text s h =
     legacy-text-of m.0 c.0 z.0 text s m.2.0 (opcode-sound Legacy m.0 c.0 z.0 l.None w.None m.2.0 s m.2.2)
     (c.2.1 ∙ ap (λ x. class_text c.0 ++ x) z.2.1 ∙ ap (λ x. class_text c.0 ++ (size_text z.0 ++ x)) m.2.1)
 
+-- the value of L is one that a VEX text states
 abbrev pub some_l : LBit → Bool
 some_l x = not (lacks_l x)
 
+-- the value of W is one that a VEX text states
 abbrev pub some_w : WBit → Bool
 some_w x = not (lacks_w x)
 
+-- the map is one that a VEX text states
 abbrev pub own_map : Map → Bool
 own_map m = not (is_one_byte_map m)
 

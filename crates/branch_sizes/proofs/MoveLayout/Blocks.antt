@@ -16,6 +16,7 @@ use Rattle.branch_sizes.specs.MoveLayout.Slots.{place_among, fragment_over}
 use Rattle.branch_sizes.specs.MoveLayout.Tables.{AreFragments, AreEnds}
 use Rattle.branch_sizes.proofs.MoveLayout.Slotting.{stays_with, is_there, length-with_goal}
 
+-- a further fragment extends the fragments of a block
 pub push_fragment : (p : BlockPlan) (layout : List ℕ) (n : ℕ) (fragments more : List Fragment) (s : Fragment) → AreFragments p layout n fragments
     → more ≡ fragments ++ s ∷ [] → s ≡ fragment_at p layout n → AreFragments p layout (n + 1) more
 push_fragment p layout n fragments more s a e is = record {
@@ -28,6 +29,7 @@ push_fragment p layout n fragments more s a e is = record {
   ];
 }
 
+-- a further end extends the ends of blocks
 pub push_end : (p : BlockPlan) (layout : List ℕ) (n : ℕ) (ends more : List BlockEnd) (x : BlockEnd) → AreEnds p layout n ends
     → more ≡ ends ++ x ∷ [] → x ≡ end_at p layout n → AreEnds p layout (n + 1) more
 push_end p layout n ends more x a e is = record {
@@ -65,6 +67,7 @@ far_stays p layout first i (suc d) far =
     (goal_address p layout (first + i)) ih.1 in
     rw add-suc (more.0 ∙ ih.0, more.1)
 
+-- an item of a far form has the number of its goal among the goals of its block
 pub far_number : (p : BlockPlan) (layout : List ℕ) (first i n k : ℕ) → k ≡ first + i → i < n → is_far_at p layout k ≡ true
     → place_among (far_goals p layout first (i + 1)) (goal_address p layout k) ≡ place_among (far_goals p layout first n) (goal_address p layout k)
 far_number p layout first i n k e lt far =
@@ -77,6 +80,7 @@ far_number p layout first i n k e lt far =
     (subst (λ m. place_among (far_goals p layout first m) (goal_address p layout (first + i)) ≡ place_among (far_goals p layout first (suc i + (n - suc i))) (goal_address p layout (first + i))) one stays) in
     subst (λ j. place_among (far_goals p layout first (i + 1)) (goal_address p layout j) ≡ place_among (far_goals p layout first n) (goal_address p layout j)) (sym e) named
 
+-- its goal is among them
 pub far_listed : (p : BlockPlan) (layout : List ℕ) (first i n k : ℕ) → k ≡ first + i → i < n → is_far_at p layout k ≡ true
     → place_among (far_goals p layout first n) (goal_address p layout k) < length (far_goals p layout first n)
 far_listed p layout first i n k e lt far =
@@ -87,6 +91,7 @@ far_listed p layout first i n k e lt far =
     (far_stays p layout first i (n - suc i) far_i).1 in
     subst (λ j. place_among (far_goals p layout first n) (goal_address p layout j) < length (far_goals p layout first n)) (sym e) named
 
+-- a block has no more far goals than items
 pub length-far_goals : (p : BlockPlan) (layout : List ℕ) (first n : ℕ) → length (far_goals p layout first n) ≤ n
 length-far_goals p layout first zero = omega arith
 length-far_goals p layout first (suc n) =

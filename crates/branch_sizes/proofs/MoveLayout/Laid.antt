@@ -80,6 +80,7 @@ module _ (p : BlockPlan) (layout : List ℕ) (b i k : ℕ) (il : i < (span_at p.
   unfolding slot_address
   slot-within = slot-at p layout b (place_among (slots_of p layout b) (goal_address p layout k)) slot-number-below
 
+-- the number of slots of the first blocks
 pub length-all_slots : (p : BlockPlan) (layout : List ℕ) (b : ℕ)
     → length (all_slots p layout (b + 1)) ≡ length (all_slots p layout b) + length (slots_of p layout b)
 length-all_slots p layout b = ap length (slots_more p layout b) ∙ length-append (all_slots p layout b) (slots_of p layout b)

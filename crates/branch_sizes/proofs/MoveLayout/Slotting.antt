@@ -35,6 +35,7 @@ has_place : (goals : List ℕ) (q : ℕ) → has_number goals q ≡ ltb (place_a
 has_place [] q = refl
 has_place (x ∷ xs) q = has_step (x == q) (has_number xs q) (place_among xs q) (length xs) (has_place xs q)
 
+-- a goal that is found has its number
 pub found : (goals : List ℕ) (q n : ℕ) → number_among goals q ≡ Some n → (has_number goals q ≡ true) × (place_among goals q ≡ n)
 found goals q n e =
     elim (cases_lt (place_among goals q) (length goals)) [
@@ -44,6 +45,7 @@ found goals q n e =
       | inr ge ↦ let y = number_no goals q ge in absurd (cc)
     ]
 
+-- a goal that is not found would get the next number
 pub not_found : (goals : List ℕ) (q : ℕ) → number_among goals q ≡ None → (has_number goals q ≡ false) × (place_among goals q ≡ length goals)
 not_found goals q e =
     elim (cases_lt (place_among goals q) (length goals)) [
@@ -55,6 +57,7 @@ not_found goals q e =
 pub with_old : (goals : List ℕ) (q : ℕ) → has_number goals q ≡ true → with_goal goals true q ≡ goals
 with_old goals q h = cond-false (not (has_number goals q)) (goals ++ q ∷ []) goals (ap not h)
 
+-- a new goal is put behind the others
 pub with_new : (goals : List ℕ) (q : ℕ) → has_number goals q ≡ false → with_goal goals true q ≡ goals ++ q ∷ []
 with_new goals q h = cond-true (not (has_number goals q)) (goals ++ q ∷ []) goals (ap not h)
 
@@ -69,6 +72,7 @@ place_after : (goals : List ℕ) (g q : ℕ) → place_among goals q ≡ length 
 place_after goals g q e =
     position_or_len_push (λ x. x == q) goals g ∙ cond-true _ _ _ (eq-eqb (place_among goals q) (length goals) e)
 
+-- and has the number that they had as their count
 pub place_new : (goals : List ℕ) (g : ℕ) → place_among goals g ≡ length goals → place_among (goals ++ g ∷ []) g ≡ length goals
 place_new goals g e = omega (arith, place_after goals g g e, cond-true {A = ℕ} (eqb g g) 0 1 (eq-eqb g g refl))
 
@@ -124,6 +128,7 @@ stays_with goals far g q lt = (
       (λ e. omega (arith, place_stays goals g q lt, length-append goals (g ∷ []))) (λ e. lt),
 )
 
+-- a goal that was added has a number below the count
 pub is_there : (goals : List ℕ) (g : ℕ) → place_among (with_goal goals true g) g < length (with_goal goals true g)
 is_there goals g =
     elim (cases_lt (place_among goals g) (length goals)) [
@@ -134,6 +139,7 @@ is_there goals g =
           (omega (arith, place_new goals g last, length-append goals (g ∷ [])))
     ]
 
+-- adding a goal adds at most one
 pub length-with_goal : (goals : List ℕ) (far : Bool) (g : ℕ) → length (with_goal goals far g) ≤ length goals + 1
 length-with_goal goals far g =
     cond_both (far && not (has_number goals g)) (goals ++ g ∷ []) goals (λ xs. length xs ≤ length goals + 1)

@@ -46,6 +46,7 @@ pub record ReadFrom (bits : Bits) (ip : ℕ) (bytes : List ℕ) (d : Decoded) : 
   pub len_is : length (bytes_of row spelling) ≡ d.len
   pub short : length (bytes_of row spelling) ≤ 15
 
+-- an instruction that is read is read from a front and a tail
 pub read_from : (bits : Bits) (ip : ℕ) (bytes : List ℕ) (d : Decoded) → IsRead bits ip bytes (Read d) → ReadFrom bits ip bytes d
 read_from bits ip bytes d reads =
     let spells = reads.1.1 in
@@ -87,6 +88,7 @@ front_is law bits ip bytes d r =
 known_same : (a b : PrefixState) → Known a ≡ Known b → a ≡ b
 known_same a b h = cc
 
+-- the front that was read is the front of the bytes
 pub state_is : FrontLaw → (bits : Bits) (ip : ℕ) (bytes : List ℕ) (d : Decoded) (r : ReadFrom bits ip bytes d) (state : PrefixState) →
     front_of bits bytes ≡ Known state → state ≡ state_of bits r.row r.spelling
 state_is law bits ip bytes d r state h = known_same state (state_of bits r.row r.spelling) (sym h ∙ front_is law bits ip bytes d r)
@@ -97,6 +99,7 @@ pub record FrontIsSmall (bytes : List ℕ) (state : PrefixState) : Type 0 where
   pub inside : state.used + 1 ≤ length bytes
   pub lead : length (lead_bytes state.map state.vex) ≤ state.used
 
+-- a front ends within 15 bytes
 pub front_small : FrontLaw → (bits : Bits) (ip : ℕ) (bytes : List ℕ) (d : Decoded) → IsRead bits ip bytes (Read d) → (state : PrefixState) →
     front_of bits bytes ≡ Known state → FrontIsSmall bytes state
 front_small law bits ip bytes d reads state h =
@@ -233,6 +236,7 @@ front_known law bits ip bytes d reads state h =
     let front = front_is law bits ip bytes d r in
     front ∙ ap Known (sym (same_ok state (state_of bits r.row r.spelling) (h ∙ ap answer_of front)))
 
+-- the offsets that are made are those of the parts
 pub made_of : (bits : Bits) (row : Row) (state : PrefixState) (bytes tail : List ℕ) (lengths : Lengths) (size : Bits) (o : ByteOffsets) (mid : ℕ) →
     o ≡ offsets_by lengths size row → lengths ≡ lengths_in bits row state tail → size ≡ state_size bits row state → tail ≡ drop mid bytes →
     mid ≡ state.used + 1 → o ≡ offsets_by (lengths_in bits row state (drop (state.used + 1) bytes)) (state_size bits row state) row

@@ -14,6 +14,7 @@ either_short false x y h k = k
 full_short : (size : Bits) → full_displacement size ≤ 8
 full_short size = either_short (is_16 size) 2 4 (omega arith) (omega arith)
 
+-- a displacement has at most 8 bytes
 pub bytes_short : (size : Bits) (m : ModRm) (sib : Option Sib) → displacement_bytes size m sib ≤ 8
 unfolding displacement_bytes
 bytes_short size m sib =

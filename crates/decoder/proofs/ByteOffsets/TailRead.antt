@@ -156,6 +156,7 @@ pub used_is : (bits : Bits) (row : Row) (s : Spelling) → (state_of bits row s)
 unfolding state_of state_from front_bytes
 used_is bits row s = length-append s.prefixes.items (lead_bytes row.map s.vex)
 
+-- the lead bytes of a spelling are those of its row's map and its VEX
 pub lead_is : (bits : Bits) (row : Row) (s : Spelling) → lead_bytes (state_of bits row s).map (state_of bits row s).vex ≡ lead_bytes row.map s.vex
 unfolding state_of state_from
 lead_is bits row s = lead_same row.map s.vex
@@ -184,6 +185,7 @@ unfolding lengths_fit
 address_of bits row state m sib disp imm h =
     (and_parts (address_fits (state_address_size bits state) row m sib disp) (imm == immediates_bytes (state_size bits row state) row) h).0
 
+-- the immediates follow the displacement
 pub immediates_of : (bits : Bits) (row : Row) (state : PrefixState) (m : Option ModRm) (sib : Option Sib) (disp imm : ℕ) →
     lengths_fit bits row state m sib disp imm ≡ true → imm ≡ immediates_bytes (state_size bits row state) row
 unfolding lengths_fit

@@ -119,34 +119,42 @@ through_memory = refl
 
 -- ---- by code
 
+-- the short JMP is EB with a byte, without a condition on prefixes
 pub short-jump : (size : Bits) → slice_get table (short_code Jump size) ≡ Some (offset_row One 0xEB Jb 20 size)
 unfolding short_code
 short-jump size = row-of-size JMP_REL8 3 One 0xEB Jb 20 short_jumps 0 size (omega arith)
 
+-- the short Jcc is 70 to 7F by its condition
 pub short-condition : (n : ℕ) (size : Bits) → n < 16 → slice_get table (short_code (Condition n) size) ≡ Some (offset_row One (0x70 + n) Jb 20 size)
 unfolding short_code
 short-condition n size lt = row-of-size JO_REL8 48 One 0x70 Jb 20 short_conditions n size (omega arith)
 
+-- LOOPNE, LOOPE, LOOP and JCXZ are E0 to E3
 pub short-count : (n : ℕ) (size : Bits) → n < 4 → slice_get table (short_code (Count n) size) ≡ Some (offset_row One (0xE0 + n) Jb 22 size)
 unfolding short_code
 short-count n size lt = row-of-size LOOPNE_REL8 12 One 0xE0 Jb 22 counts n size (omega arith)
 
+-- the near JMP is E9
 pub near-jump : (size : Bits) → slice_get table (near_code Jump size) ≡ Some (offset_row One 0xE9 Jz 20 size)
 unfolding near_code
 near-jump size = row-of-size JMP_REL16 3 One 0xE9 Jz 20 near_jumps 0 size (omega arith)
 
+-- the near CALL is E8
 pub near-call : (size : Bits) → slice_get table (near_code Call size) ≡ Some (offset_row One 0xE8 Jz 20 size)
 unfolding near_code
 near-call size = row-of-size CALL_REL16 3 One 0xE8 Jz 20 near_calls 0 size (omega arith)
 
+-- the near Jcc is 0F 80 to 0F 8F by its condition
 pub near-condition : (n : ℕ) (size : Bits) → n < 16 → slice_get table (near_code (Condition n) size) ≡ Some (offset_row M0f (0x80 + n) Jz 20 size)
 unfolding near_code
 near-condition n size lt = row-of-size JO_REL16 48 M0f 0x80 Jz 20 near_conditions n size (omega arith)
 
+-- the CALL through memory is FF /2
 pub far-call : slice_get table (far_code Call) ≡ Some (memory_row 2)
 unfolding far_code
 far-call = let h = through_memory in cc
 
+-- the JMP through memory is FF /4
 pub far-jump : slice_get table (far_code Jump) ≡ Some (memory_row 4)
 unfolding far_code
 far-jump = let h = through_memory in cc

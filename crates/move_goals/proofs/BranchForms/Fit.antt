@@ -48,6 +48,7 @@ own_choice bits i = record { form = Itself; len = form_length bits i Itself; rea
 abbrev pub branch_choices : Bits → Instr → Action → Bool → Bits → List Choice
 branch_choices bits i action is_short size = map (branch_choice bits i (branch_with action is_short size)) (branch_forms bits action is_short)
 
+-- the choices of a branch have the shape that a plan requires, in each mode and operand size that go together
 pub branch-shape : (i : Instr) (action : Action) (is_short : Bool) (bits size : Bits) → is_pair bits size ≡ true → has_shape (branch_choices bits i action is_short size) ≡ true
 unfolding has_shape branch_forms form_reach near_reach bridge_reach
 branch-shape i Jump true = by_pair (λ bits size. has_shape (branch_choices bits i Jump true size) ≡ true) refl refl refl refl refl
@@ -102,6 +103,7 @@ offset_bytes-small B64 B64 = (omega arith, omega arith)
 
 -- ---- lengths that rise
 
+-- the lengths of one choice rise
 pub rises-one : (c : Choice) → 1 ≤ c.len → c.len ≤ 15 → IsTrue (lengths_rise_from 1 (c ∷ []))
 rises-one c low high = rw (le-leb 1 c.len low, le-leb c.len 15 high) refl
 

@@ -38,26 +38,34 @@ names-memory code digit at = record {
   has_size = refl;
 }
 
+-- the code of the short JMP names its row
 pub short-jump-named : (size : Bits) → NamesRow (short_code Jump size) One 0xEB No Jb size
 short-jump-named size = names-offset (short_code Jump size) One 0xEB Jb 20 size (short-jump size)
 
+-- the code of a short Jcc names its row
 pub short-condition-named : (n : ℕ) (size : Bits) → n < 16 → NamesRow (short_code (Condition n) size) One (0x70 + n) No Jb size
 short-condition-named n size lt = names-offset (short_code (Condition n) size) One (0x70 + n) Jb 20 size (short-condition n size lt)
 
+-- the code of a branch by the counter names its row
 pub short-count-named : (n : ℕ) (size : Bits) → n < 4 → NamesRow (short_code (Count n) size) One (0xE0 + n) No Jb size
 short-count-named n size lt = names-offset (short_code (Count n) size) One (0xE0 + n) Jb 22 size (short-count n size lt)
 
+-- the code of the near JMP names its row
 pub near-jump-named : (size : Bits) → NamesRow (near_code Jump size) One 0xE9 No Jz size
 near-jump-named size = names-offset (near_code Jump size) One 0xE9 Jz 20 size (near-jump size)
 
+-- the code of the near CALL names its row
 pub near-call-named : (size : Bits) → NamesRow (near_code Call size) One 0xE8 No Jz size
 near-call-named size = names-offset (near_code Call size) One 0xE8 Jz 20 size (near-call size)
 
+-- the code of a near Jcc names its row
 pub near-condition-named : (n : ℕ) (size : Bits) → n < 16 → NamesRow (near_code (Condition n) size) M0f (0x80 + n) No Jz size
 near-condition-named n size lt = names-offset (near_code (Condition n) size) M0f (0x80 + n) Jz 20 size (near-condition n size lt)
 
+-- the code of the JMP through memory names its row
 pub far-jump-named : NamesRow (far_code Jump) One 0xFF (Digit 4) Ev B64
 far-jump-named = names-memory (far_code Jump) 4 far-jump
 
+-- the code of the CALL through memory names its row
 pub far-call-named : NamesRow (far_code Call) One 0xFF (Digit 2) Ev B64
 far-call-named = names-memory (far_code Call) 2 far-call

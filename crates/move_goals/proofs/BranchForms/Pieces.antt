@@ -104,39 +104,48 @@ slot-row : (bits : Bits) (row : Row) (code slot : ℕ) → slice_get table code 
 unfolding through_slot
 slot-row bits row code slot at = row-length bits row (through_slot code slot) at
 
+-- a short JMP has two bytes and its size prefix
 pub short_jump-length : (bits size : Bits) → (t : ℕ) → plain_length bits (branch_to (short_code Jump size) None t) ≡ 2 + size_byte bits size
 short_jump-length bits size t =
     branch-row bits (offset_row One 0xEB Jb 20 size) (short_code Jump size) None t (short-jump size) ∙ short-len 0xEB (short_code Jump size) t bits size
 
+-- so has a short Jcc
 pub short_condition-length : (bits size : Bits) → (n : ℕ) → n < 16 → (t : ℕ) → plain_length bits (branch_to (short_code (Condition n) size) None t) ≡ 2 + size_byte bits size
 short_condition-length bits size n lt t =
     branch-row bits (offset_row One (0x70 + n) Jb 20 size) (short_code (Condition n) size) None t (short-condition n size lt)
     ∙ short-len (0x70 + n) (short_code (Condition n) size) t bits size
 
+-- a branch by the counter has its address-size prefix too
 pub short_count-length : (bits size : Bits) → (n : ℕ) → n < 4 → (asize : Option Bits) (t : ℕ) → plain_length bits (branch_to (short_code (Count n) size) asize t) ≡ 2 + size_byte bits size + address_byte bits asize
 short_count-length bits size n lt asize t =
     branch-row bits (offset_row One (0xE0 + n) Jb 22 size) (short_code (Count n) size) asize t (short-count n size lt)
     ∙ count-len-of (0xE0 + n) (short_code (Count n) size) t asize bits size
 
+-- a near JMP has its opcode byte, its size prefix and the offset
 pub near_jump-length : (bits size : Bits) → (t : ℕ) → plain_length bits (branch_to (near_code Jump size) None t) ≡ 1 + size_byte bits size + offset_bytes bits size
 near_jump-length bits size t =
     branch-row bits (offset_row One 0xE9 Jz 20 size) (near_code Jump size) None t (near-jump size) ∙ near-len 0xE9 (near_code Jump size) t bits size
 
+-- so has a near CALL
 pub near_call-length : (bits size : Bits) → (t : ℕ) → plain_length bits (branch_to (near_code Call size) None t) ≡ 1 + size_byte bits size + offset_bytes bits size
 near_call-length bits size t =
     branch-row bits (offset_row One 0xE8 Jz 20 size) (near_code Call size) None t (near-call size) ∙ near-len 0xE8 (near_code Call size) t bits size
 
+-- a near Jcc has two opcode bytes
 pub near_condition-length : (bits size : Bits) → (n : ℕ) → n < 16 → (t : ℕ) → plain_length bits (branch_to (near_code (Condition n) size) None t) ≡ 2 + size_byte bits size + offset_bytes bits size
 near_condition-length bits size n lt t =
     branch-row bits (offset_row M0f (0x80 + n) Jz 20 size) (near_code (Condition n) size) None t (near-condition n size lt)
     ∙ condition-len (0x80 + n) (near_code (Condition n) size) t bits size
 
+-- a CALL through a slot has a length that depends on the mode alone
 pub slot_call-length : (bits : Bits) (slot : ℕ) → plain_length bits (through_slot (far_code Call) slot) ≡ slot_bytes bits
 slot_call-length bits slot = slot-row bits (memory_row 2) (far_code Call) slot far-call ∙ slot-len 2 (far_code Call) slot bits
 
+-- so has a JMP through a slot
 pub slot_jump-length : (bits : Bits) (slot : ℕ) → plain_length bits (through_slot (far_code Jump) slot) ≡ slot_bytes bits
 slot_jump-length bits slot = slot-row bits (memory_row 4) (far_code Jump) slot far-jump ∙ slot-len 4 (far_code Jump) slot bits
 
+-- the opposite of a condition is a condition
 pub opposite_condition-small : (n : ℕ) → n < 16 → opposite_condition n < 16
 unfolding opposite_condition
 opposite_condition-small n lt = xor_lt 4 n 1 lt (omega arith)

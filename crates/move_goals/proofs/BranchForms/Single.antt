@@ -32,6 +32,7 @@ pub own-short : (bits : Bits) (i : Instr) (place goal slot : ℕ) → branch_of 
 unfolding image_of
 own-short bits i place goal slot h = rw h refl
 
+-- an instruction that is no relative branch is its own image, aimed at the goal
 pub own-near : (bits : Bits) (i : Instr) (place goal slot : ℕ) → branch_of i ≡ None → image_of bits i Near place goal slot ≡ with_target goal i ∷ []
 unfolding image_of
 own-near bits i place goal slot h = rw h refl
@@ -42,6 +43,7 @@ pub branch-short : (bits : Bits) (i : Instr) (b : RelativeBranch) (place goal sl
 unfolding image_of branch_image
 branch-short bits i b place goal slot h = rw h refl
 
+-- the near image of a relative branch is one instruction
 pub branch-near : (bits : Bits) (i : Instr) (b : RelativeBranch) (place goal slot : ℕ) → branch_of i ≡ Some b
     → image_of bits i Near place goal slot ≡ branch_to (near_code b.action b.size) None goal ∷ []
 unfolding image_of branch_image

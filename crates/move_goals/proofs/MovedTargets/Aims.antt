@@ -64,6 +64,7 @@ unfolding target_of
 target-with_target t i =
     rw (first-instead near_value t (near_instead t) i, first-instead ip_value t (ip_instead t) i) (instead-or t (first_value near_value i) (first_value ip_value i))
 
+-- an instruction that is aimed at a target has that target
 pub with_target-target : (t old : ℕ) (i : Instr) → target_of i ≡ Some old → target_of (with_target t i) ≡ Some t
 with_target-target t old i h = target-with_target t i ∙ ap (instead t) h
 
@@ -81,6 +82,7 @@ same_base t m (Some Rip) h = cc
 same_base t m (Some Eip) h = cc
 same_base t m (Some _) h = refl
 
+-- an operand without a target stays as it is when it is aimed
 pub operand-untargeted : (t : ℕ) (op : Operand) → near_value op ≡ None → ip_value op ≡ None → aimed_operand t op ≡ op
 unfolding near_value ip_value aimed_operand
 operand-untargeted t Absent a b = refl
@@ -97,6 +99,7 @@ pub record NoValue (value : Operand → Option ℕ) (i : Instr) : Type 0 where
   pub third : value (operand_at i 2) ≡ None
   pub fourth : value (operand_at i 3) ≡ None
 
+-- without a first value no operand has one
 pub no_value : (value : Operand → Option ℕ) (i : Instr) → first_value value i ≡ None → NoValue value i
 no_value value i h =
     let v = λ (n : ℕ). value (operand_at i n) in

@@ -43,6 +43,7 @@ unfolding is_variant_of
 variant place method.RegisterOrMemory = allowed place
 variant place _ = record { memory = λ m disp. refl; near = λ x y. refl }
 
+-- aiming an instruction elsewhere keeps whether its operands are of their kinds
 pub kind_suits-with_target : (t : ℕ) (row : Row) (i : Instr) (n : ℕ) → kind_suits row (with_target t i) n ≡ kind_suits row i n
 unfolding kind_suits
 kind_suits-with_target t row i n =
@@ -101,6 +102,7 @@ named_same : (p q : Register → Bool) → ((r : Register) → p r ≡ q r) → 
 named_same p q h (Reg r) = h r
 named_same p q h _ = refl
 
+-- whether its registers suit
 pub register_suits-with_target : (bits : Bits) (t : ℕ) (row : Row) (i : Instr) (n : ℕ) → register_suits bits row (with_target t i) n ≡ register_suits bits row i n
 unfolding register_suits
 register_suits-with_target bits t row i n =
@@ -123,6 +125,7 @@ shape_same bits row method.Gather file m disp = refl
 shape_same bits row method.Offset file m disp = refl
 shape_same bits row _ file m disp = refl
 
+-- whether its addresses suit
 pub address_suits-with_target : (bits : Bits) (t : ℕ) (row : Row) (i : Instr) (n : ℕ) → address_suits bits row (with_target t i) n ≡ address_suits bits row i n
 unfolding address_suits
 address_suits-with_target bits t row i n =
@@ -140,6 +143,7 @@ immediate size method.One n = record { memory = λ m disp. refl; near = λ x y. 
 immediate size method.Pointer n = record { memory = λ m disp. refl; near = λ x y. refl }
 immediate size _ n = record { memory = λ m disp. refl; near = λ x y. refl }
 
+-- whether its immediates suit
 pub immediate_suits-with_target : (bits : Bits) (t : ℕ) (row : Row) (i : Instr) (n : ℕ) → immediate_suits bits row (with_target t i) n ≡ immediate_suits bits row i n
 unfolding immediate_suits
 immediate_suits-with_target bits t row i n =
@@ -169,6 +173,7 @@ repeat-with_target t row i =
       | _ ↦ is_no_repeat i.rep
     ]) (asked_opcode-with_target t row i)
 
+-- whether its prefixes suit
 pub prefixes_suit-with_target : (t : ℕ) (row : Row) (i : Instr) → prefixes_suit row (with_target t i) ≡ prefixes_suit row i
 unfolding prefixes_suit
 prefixes_suit-with_target t row i = rw (lock-with_target t row i, repeat-with_target t row i) refl
@@ -200,6 +205,7 @@ sized : (p q : Bits → Bool) → ((asize : Bits) → p asize ≡ q asize) → (
 sized p q h None = refl
 sized p q h (Some asize) = h asize
 
+-- and whether its address size suits
 pub address_size_suits-with_target : (bits : Bits) (t : ℕ) (row : Row) (i : Instr) → address_size_suits bits row (with_target t i) ≡ address_size_suits bits row i
 unfolding address_size_suits with_target
 address_size_suits-with_target bits t row i =

@@ -30,6 +30,7 @@ by_base t m (Some Rip) = refl
 by_base t m (Some Eip) = refl
 by_base t m (Some _) = refl
 
+-- an aimed memory operand differs in its displacement alone
 pub with_target-memory : (t : ℕ) (m : Mem) → aimed_operand t (Memory m) ≡ Memory (record m { disp = aimed_disp t m.base m.disp })
 unfolding aimed_operand
 with_target-memory t m = by_base t m m.base
@@ -39,6 +40,7 @@ pub record IgnoresTarget {T : Type 0} (f : Operand → T) : Type 0 where
   pub memory : (m : Mem) (disp : ℕ) → f (Memory (record m { disp = disp })) ≡ f (Memory m)
   pub near : (x y : ℕ) → f (Near x) ≡ f (Near y)
 
+-- what ignores the target of an operand is the same of the aimed operand
 pub ignored : {T : Type 0} (f : Operand → T) → IgnoresTarget f → (t : ℕ) (op : Operand) → f (aimed_operand t op) ≡ f op
 unfolding aimed_operand
 ignored f h t Absent = refl
@@ -61,9 +63,11 @@ pub operand_at-with_target : (t : ℕ) (i : Instr) (n : ℕ) → operand_at (wit
 unfolding with_target
 operand_at-with_target t i n = at_mapped t i.ops n
 
+-- the same at each place of an instruction
 pub at-with_target : {T : Type 0} (f : Operand → T) → IgnoresTarget f → (t : ℕ) (i : Instr) (n : ℕ) → f (operand_at (with_target t i) n) ≡ f (operand_at i n)
 at-with_target f h t i n = ap f (operand_at-with_target t i n) ∙ ignored f h t (operand_at i n)
 
+-- a sum over operands that ignores targets is that over the aimed operands
 pub over_operands-map : (f : Method → Operand → ℕ) → ((how : Method) → IgnoresTarget (f how)) → (t : ℕ) (kinds : List OpKind) (ops : List Operand) → over_operands f kinds (map (aimed_operand t) ops) ≡ over_operands f kinds ops
 over_operands-map f h t [] ops = refl
 over_operands-map f h t (kind ∷ kinds) [] = refl
@@ -76,6 +80,7 @@ chosen : (b : Bool) (t : ℕ) (op x y : Operand) → x ≡ aimed_operand t y →
 chosen true t op x y e = refl
 chosen false t op x y e = e
 
+-- the first operand that is read by a method is aimed with the others
 pub operand_where-map : (p : Method → Bool) (t : ℕ) (kinds : List OpKind) (ops : List Operand) → operand_where p kinds (map (aimed_operand t) ops) ≡ aimed_operand t (operand_where p kinds ops)
 unfolding aimed_operand
 operand_where-map p t [] ops = refl
@@ -87,6 +92,7 @@ low_byte : IgnoresTarget is_low_byte_of_rex
 unfolding is_low_byte_of_rex
 low_byte = record { memory = λ m disp. refl; near = λ x y. refl }
 
+-- whether an operand is a low byte register that needs a REX ignores targets
 pub asks_low_byte-map : (t : ℕ) (ops : List Operand) → asks_low_byte (map (aimed_operand t) ops) ≡ asks_low_byte ops
 asks_low_byte-map t [] = refl
 asks_low_byte-map t (op ∷ ops) =

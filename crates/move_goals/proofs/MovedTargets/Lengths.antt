@@ -17,6 +17,7 @@ by_row_aimed : (bits : Bits) (t : ℕ) (row : Option Row) (i : Instr) → plain_
 by_row_aimed bits t None i = refl
 by_row_aimed bits t (Some row) i = len-with_target bits t row i
 
+-- an aimed instruction keeps its code
 pub code-with_target : (t : ℕ) (i : Instr) → (with_target t i).code ≡ i.code
 unfolding with_target
 code-with_target t i = refl
@@ -28,10 +29,12 @@ with_target-length bits t i = by_row_aimed bits t (slice_get table i.code.0) i
 
 -- ---- of an encoding, and of what is spelled
 
+-- the plain length of an instruction is that by its row
 pub plain_length-row : (bits : Bits) (i : Instr) (row : Row) → slice_get table i.code.0 ≡ Some row → plain_length bits i ≡ plain_len bits row i
 unfolding plain_length
 plain_length-row bits i row at = rw at refl
 
+-- an instruction has a byte at least
 pub some_byte : (bits : Bits) (row : Row) (i : Instr) → 1 ≤ plain_len bits row i
 unfolding plain_len
 some_byte bits row i = omega arith

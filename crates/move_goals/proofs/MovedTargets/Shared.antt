@@ -135,6 +135,7 @@ pub record AllReached (i : Instr) (len place t : ℕ) : Type 0 where
   pub third : Reached (operand_reach (operand_at i 2)) len place t
   pub fourth : Reached (operand_reach (operand_at i 3)) len place t
 
+-- if the reach of an instruction takes in the target, each operand with a target reaches it
 pub all_reached : (bits : Bits) (row : Row) (i : Instr) (len place t : ℕ) → address_size_suits bits row i ≡ true → Reaches (target_reach i) len place t → AllReached i len place t
 unfolding target_reach
 all_reached bits row i len place t suits h =

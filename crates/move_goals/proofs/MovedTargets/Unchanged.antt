@@ -56,18 +56,23 @@ asked-with_target : (f : Method → Operand → ℕ) → ((how : Method) → Ign
 unfolding with_target
 asked-with_target f h t row i = over_operands-map f h t row.ops i.ops
 
+-- aiming an instruction keeps the number in the field reg
 pub reg-with_target : (t : ℕ) (row : Row) (i : Instr) → number_asked_of number_in_reg row (with_target t i) ≡ number_asked_of number_in_reg row i
 reg-with_target t row i = asked-with_target number_in_reg in_reg t row i
 
+-- the number in r/m
 pub rm-with_target : (t : ℕ) (row : Row) (i : Instr) → number_asked_of number_in_rm row (with_target t i) ≡ number_asked_of number_in_rm row i
 rm-with_target t row i = asked-with_target number_in_rm in_rm t row i
 
+-- the number in the index of a SIB
 pub index-with_target : (t : ℕ) (row : Row) (i : Instr) → number_asked_of number_in_index row (with_target t i) ≡ number_asked_of number_in_index row i
 index-with_target t row i = asked-with_target number_in_index in_index t row i
 
+-- the number in vvvv
 pub vvvv-with_target : (t : ℕ) (row : Row) (i : Instr) → number_asked_of number_in_vvvv row (with_target t i) ≡ number_asked_of number_in_vvvv row i
 vvvv-with_target t row i = asked-with_target number_in_vvvv in_vvvv t row i
 
+-- and the number in the opcode byte
 pub opcode-with_target : (t : ℕ) (row : Row) (i : Instr) → number_asked_of number_in_opcode row (with_target t i) ≡ number_asked_of number_in_opcode row i
 opcode-with_target t row i = asked-with_target number_in_opcode in_opcode t row i
 
@@ -101,10 +106,12 @@ vex-with_target : (t : ℕ) (row : Row) (i : Instr) → asked_vex row (with_targ
 unfolding asked_vex
 vex-with_target t row i = rw (r-with_target t row i, x-with_target t row i, b-with_target t row i, vvvv-with_target t row i) refl
 
+-- so its opcode byte stays
 pub asked_opcode-with_target : (t : ℕ) (row : Row) (i : Instr) → asked_opcode row (with_target t i) ≡ asked_opcode row i
 unfolding asked_opcode
 asked_opcode-with_target t row i = ap (λ (n : ℕ). elim row.plus [ PlusRegister ↦ row.opcode + n % 8 | _ ↦ row.opcode ]) (opcode-with_target t row i)
 
+-- its address size stays
 pub asize-with_target : (t : ℕ) (i : Instr) → (with_target t i).asize ≡ i.asize
 unfolding with_target
 asize-with_target t i = refl
@@ -125,6 +132,7 @@ shown : (m : Mem) (disp : ℕ) → shown_size (record m { disp = disp }) ≡ sho
 unfolding shown_size
 shown m disp = refl
 
+-- the address size that is written does not depend on the displacement
 pub written_size-disp : (bits : Bits) (asize : Option Bits) (m : Mem) (disp : ℕ) → written_size bits asize (record m { disp = disp }) ≡ written_size bits asize m
 unfolding written_size
 written_size-disp bits asize m disp = rw (shown m disp) refl

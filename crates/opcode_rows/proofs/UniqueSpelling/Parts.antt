@@ -56,6 +56,7 @@ nfx true rep.None = refl
 nfx s rep.F2 = refl
 nfx s rep.F3 = refl
 
+-- the condition on F3 by the repeat prefix is the one by the number of the prefix
 pub nf3 : (s : Bool) (r : Rep) → not (is_repeat_f3 r) ≡ not (prefix_of r s == 2)
 nf3 false rep.None = refl
 nf3 true rep.None = refl
@@ -100,6 +101,7 @@ prefix_of_pp pp = prefix_of (repeat_of_pp pp) (pp == 1)
 with_pp : (c : Class) (pp n : ℕ) → pp ≡ n → class_allows c (prefix_of_pp n) ≡ true → class_allows c (prefix_of_pp pp) ≡ true
 with_pp c pp n e h = ap (λ x. class_allows c (prefix_of_pp x)) e ∙ h
 
+-- the field pp of a fitting VEX is that of the class
 pub vex-class : (c : Class) (v : Vex) → vex_class_fits c v ≡ true → class_allows c (prefix_of_pp v.pp) ≡ true
 unfolding vex_class_fits
 vex-class class.Any v h = cc
@@ -120,6 +122,7 @@ rex-64 B16 prefixes n = refl
 rex-64 B32 prefixes n = refl
 rex-64 B64 prefixes n = refl
 
+-- a size that fits is allowed by the fields
 pub size-allowed : (bits : Bits) (z : Size) (n : Bits) (x : Bool) → size_fits bits z n x ≡ true → size_allows z n ≡ true
 unfolding size_fits
 size-allowed bits size.None n x h = refl
@@ -130,6 +133,7 @@ size-allowed bits size.O64 n x h = h
 size-allowed bits size.W0 n x h = refl
 size-allowed bits size.W1 n x h = refl
 
+-- so is every size where a VEX row has none
 pub size-of_vex : (z : Size) (n : Bits) → is_size_of_vex z ≡ true → size_allows z n ≡ true
 size-of_vex size.None n h = refl
 size-of_vex size.O16 n h = cc
@@ -139,6 +143,7 @@ size-of_vex size.O64 n h = cc
 size-of_vex size.W0 n h = refl
 size-of_vex size.W1 n h = refl
 
+-- W is that of the size where it is the size
 pub w-as_size : (bits : Bits) (z : Size) (n : Bits) (x : Bool) → size_fits bits z n x ≡ true → w_as_size z x ≡ true
 unfolding size_fits
 w-as_size bits size.None n x h = refl
@@ -149,6 +154,7 @@ w-as_size bits size.O64 n x h = refl
 w-as_size bits size.W0 n x h = h
 w-as_size bits size.W1 n x h = h
 
+-- a legacy row puts no condition on W
 pub w-of_legacy : (z : Size) (x : WBit) (b : Bool) → is_no_w x ≡ true → w_allows z x b ≡ true
 w-of_legacy size.None w.None b h = refl
 w-of_legacy size.None w.W0 b h = cc
@@ -179,6 +185,7 @@ w-of_legacy size.W1 w.W0 b h = refl
 w-of_legacy size.W1 w.W1 b h = refl
 w-of_legacy size.W1 w.Wig b h = refl
 
+-- W of a fitting VEX is allowed by the fields
 pub w-of_vex : (z : Size) (x : WBit) (b : Bool)
     → (takes_w_as_size z || elim x [ w.W0 ↦ not b | w.W1 ↦ b | _ ↦ true ]) ≡ true → w_allows z x b ≡ true
 w-of_vex size.None w.None b h = refl
@@ -210,6 +217,7 @@ w-of_vex size.W1 w.W0 b h = refl
 w-of_vex size.W1 w.W1 b h = refl
 w-of_vex size.W1 w.Wig b h = refl
 
+-- a legacy row puts no condition on L
 pub l-of_legacy : (x : LBit) → is_no_l x ≡ true → l_holds x false ≡ true
 l-of_legacy l.None h = refl
 l-of_legacy l.L128 h = cc
@@ -217,6 +225,7 @@ l-of_legacy l.L256 h = cc
 l-of_legacy l.Lig h = cc
 l-of_legacy l.Lz h = cc
 
+-- L of a fitting VEX holds by the fields
 pub l-of_vex : (x : LBit) (v : Vex) → l_fits x v ≡ true → l_holds x v.l ≡ true
 unfolding l_fits
 l-of_vex l.None v h = refl

@@ -28,6 +28,7 @@ next-is : (s : Spelling) (rest : List ℕ) → NextIs s.modrm (first_byte (tail_
 unfolding tail_bytes
 next-is s rest = of_modrm s.modrm (sib_bytes s.sib ++ (s.disp.items ++ s.imm.items)) rest
 
+-- the conditions of a row hold on the fields of each spelling that fits it
 pub row-holds : (bits : Bits) (code : ℕ) (row : Row) (s : Spelling) (rest : List ℕ) → slice_get table code ≡ Some row → fits bits row s ≡ true
     → holds bits row (fields_of (state_of bits row s) (first_byte (tail_bytes s ++ rest))) ≡ true
 row-holds bits code row s rest at h = fit-holds bits row s (first_byte (tail_bytes s ++ rest)) (sound-row code row at) h (next-is s rest)
@@ -46,6 +47,7 @@ tail_of_cons a b xs ys h = cc
 some-inj : (q r : Row) → Some q ≡ Some r → q ≡ r
 some-inj q r e = cc
 
+-- two fitting spellings that begin the same bytes are of one row, and one spelling
 pub unique : (bits : Bits) (j k : ℕ) (q r : Row) (s t : Spelling) (rest others : List ℕ)
     → slice_get table j ≡ Some q → slice_get table k ≡ Some r → fits bits q s ≡ true → fits bits r t ≡ true
     → bytes_of q s ++ rest ≡ bytes_of r t ++ others → (j ≡ k) × (s ≡ t) × (rest ≡ others)

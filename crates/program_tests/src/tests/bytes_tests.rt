@@ -14,6 +14,8 @@ move 64 1000 7fff00000000 | e905000000e900000000 | ff250a000000ff2504000000ccccc
 move 64 1000 7fff00000000 | 7410 | 7506ff25000000001210000000000000
 move 32 1000 5000 | e210 | e202eb05e909c0ffff
 move 64 1000 80001000 | 488b0500000000 | 488b0500000080
+# the code that `sample 1` makes
+move 64 400000 10400000 | 488b05fa760000 | 488b05fa7600f0
 move 64 1000 1100 | eb01b800000000 | e9fefeffffb800000000
 move 64 ffffffffffffffff 0 | 90 | 90
 move 16 fffe 100 | eb00 | e9fdfe
@@ -87,8 +89,15 @@ fn a_chain_of_branches_grows(rt: HostRuntime) -> Result<(), Fail> {
     }
     chain.extend_from_slice(&[0x90, 0xeb, 0xfd])?;
     let ran = run_command(rt.alloc(), "move 64 1000 5000", &chain)?;
-    assert_eq!(rt; (ran.number, ran.out.len()), (0, 243));
-    assert!(rt; ran.out.ends_with(&[0x90, 0xeb, 0xfd]));
+    let end = ran
+        .out
+        .len()
+        .checked_sub(3)
+        .and_then(|from| ran.out.get(from..));
+    assert_eq!(rt;
+        (ran.number, ran.out.len(), end),
+        (0, 243, Some([0x90, 0xeb, 0xfd].as_slice()))
+    );
     Ok(())
 }
 

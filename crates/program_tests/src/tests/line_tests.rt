@@ -120,6 +120,8 @@ fn items_have_their_texts(rt: HostRuntime) -> Result<(), Fail> {
 /// Commands, code, and the lines of its items.
 const LINES: &str = "
 list 64 7ffac46acda4 intel | 48895c2410 | 00007ffac46acda4 48895c2410                     mov qword [rsp+0x10], rbx
+list 64 401000 intel | 55c3 | 0000000000401000 55                             push rbp / 0000000000401001 c3                             ret
+list 64 400000 intel | 488b05fa760000 | 0000000000400000 488b05fa760000                 mov rax, qword [rel 0x407701]
 list 16 ffff intel | 9090 | ffff 90                             nop / 0000 90                             nop
 list 64 0 intel | - | -
 info 64 401000 | 554889e54883ec20e8f60f0000c9c3 | 0000000000401000 Next r / 0000000000401001 Next w r / 0000000000401004 Next rw r / 0000000000401008 Call r -> 0x402003 / 000000000040100d Next / 000000000040100e Return

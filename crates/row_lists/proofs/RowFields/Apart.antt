@@ -13,6 +13,7 @@ use Rattle.row_lists.specs.declared.row_fields.Fields.{Fields}
 use Rattle.row_lists.specs.RowFields.Holds.{map_number, codes_holding}
 use Rattle.row_lists.specs.RowFields.Masks.{Mask, free, only, oneof, nth, allows, meets, values}
 
+-- no value is allowed by both masks
 unfoldable pub disjoint : List Bool → List Bool → Bool
 disjoint [] ys = true
 disjoint (a ∷ xs) [] = true
@@ -29,17 +30,20 @@ mask_apart (oneof xs) (only b) = not (nth xs b)
 mask_apart (oneof xs) (oneof ys) = disjoint xs ys
 mask_apart _ _ = false
 
+-- one of nine pairs of masks is disjoint
 unfoldable pub masks_apart : List Mask → List Mask → Bool
 unfolding mask_apart
 masks_apart [] ns = false
 masks_apart (m ∷ ms) [] = false
 masks_apart (m ∷ ms) (n ∷ ns) = mask_apart m n || masks_apart ms ns
 
+-- a candidate is apart from all of a list
 unfoldable pub apart_from : Cand → List Cand → Bool
 unfolding masks_apart
 apart_from c [] = true
 apart_from c (d ∷ ds) = masks_apart c.masks d.masks && apart_from c ds
 
+-- any two candidates of a list are apart
 unfoldable pub all_apart : List Cand → Bool
 unfolding apart_from
 all_apart [] = true
@@ -89,6 +93,7 @@ masks_apart-meets (m ∷ ms) (n ∷ ns) (v ∷ vs) h p q =
       | inr a ↦ masks_apart-meets ms ns vs a (and_parts (allows m v) (meets ms vs) p).1 (and_parts (allows n v) (meets ns vs) q).1
     ]
 
+-- a truth value is true or false
 pub bool_cases : (b : Bool) → (b ≡ true) ⊎ (b ≡ false)
 bool_cases true = inl refl
 bool_cases false = inr refl
@@ -103,6 +108,7 @@ apart_from-alive c (d ∷ ds) vs h p =
       | inr q ↦ rw q (apart_from-alive c ds vs (and_parts (masks_apart c.masks d.masks) (apart_from c ds) h).1 p)
     ]
 
+-- of candidates that are apart at most one allows some values
 pub alive-all_apart : (cs : List Cand) (vs : List ℕ) → all_apart cs ≡ true → length (alive cs vs) ≤ 1
 unfolding all_apart alive
 alive-all_apart [] vs h = omega arith
@@ -114,18 +120,22 @@ alive-all_apart (c ∷ cs) vs h =
 
 -- The test over a table: every cell in every mode.
 
+-- the rows of an opcode byte are apart, in each mode
 unfoldable pub cell_apart : ℕ → List Coded → Bool
 unfolding all_apart
 cell_apart op cell = all_apart (cands B16 op cell) && (all_apart (cands B32 op cell) && all_apart (cands B64 op cell))
 
+-- the rows of a kind and map are apart at each opcode byte
 unfoldable pub kind_apart : List Coded → Bool
 unfolding below
 kind_apart rows = below 256 (λ op. cell_apart op (at_opcode op rows))
 
+-- the rows of a table are apart in each cell
 unfoldable pub table_apart : List Row → Bool
 unfolding below
 table_apart rows = below 8 (λ number. kind_apart (of_number number (rows_with_codes 0 rows)))
 
+-- the number of a kind and map is below 8
 pub map_number-lt : (v : Bool) (m : Map) → map_number v m < 8
 map_number-lt false map.One = lit< tt
 map_number-lt false map.M0f = lit< tt

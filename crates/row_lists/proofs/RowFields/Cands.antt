@@ -11,6 +11,7 @@ use Rattle.row_lists.specs.RowFields.Masks.{Mask, free, only, oneof, allows, mee
 use Rattle.row_lists.proofs.RowFields.MaskLemmas.{holds-masks}
 use Rattle.row_lists.specs.RowFields.Candidates.{Coded, Cand, rows_with_codes, of_number, at_opcode, cands, alive, mask_at, value_at, clear, keep, is_empty, is_free, all_free, is_one, below}
 
+-- a row stays among those at an opcode byte exactly if it is there
 pub at_opcode-keep_if : (op : ℕ) (b : Bool) (c : Coded) (cs : List Coded)
     → at_opcode op (keep_if b c cs) ≡ keep_if (b && opcode_holds c.row.plus c.row.opcode op) c (at_opcode op cs)
 unfolding at_opcode
@@ -71,6 +72,7 @@ meets-clear (m ∷ ms) [] (suc k) =
 meets-clear (m ∷ ms) (v ∷ vs) (suc k) =
     and-swap (allows (mask_at ms k) (value_at vs k)) (allows m v) (meets (clear ms k) vs) ∙ ap (λ x. allows m v && x) (meets-clear ms vs k)
 
+-- keeping the candidates that allow a value loses none that allow all values
 pub alive-keep : (k : ℕ) (cs : List Cand) (vs : List ℕ) → alive (keep k (value_at vs k) cs) vs ≡ alive cs vs
 unfolding alive keep
 alive-keep k [] vs = refl
@@ -82,6 +84,7 @@ alive-keep k (c ∷ cs) vs =
 
 -- Ends.
 
+-- of no candidates none allows the values
 pub alive-is_empty : (cs : List Cand) (vs : List ℕ) → is_empty cs ≡ true → alive cs vs ≡ []
 unfolding is_empty alive
 alive-is_empty [] vs h = refl
@@ -95,6 +98,7 @@ meets-all_free (free ∷ ms) (v ∷ vs) h = meets-all_free ms vs h
 meets-all_free (only n ∷ ms) vs h = cc
 meets-all_free (oneof bs ∷ ms) vs h = cc
 
+-- one candidate with free masks is the only one that allows the values
 pub alive-is_one : (code : ℕ) (cs : List Cand) (vs : List ℕ) → is_one code cs ≡ true → alive cs vs ≡ code ∷ []
 unfolding is_one alive
 alive-is_one code [] vs h = cc
@@ -105,6 +109,7 @@ alive-is_one code (c ∷ d ∷ cs) vs h = cc
 
 -- Tests of each number below another.
 
+-- a test that is computed as true below n holds at each number below n
 pub below-at : (n : ℕ) (p : ℕ → Bool) (k : ℕ) → below n p ≡ true → k < n → p k ≡ true
 unfolding below
 below-at zero p k h lt = absurd (omega arith)

@@ -9,6 +9,7 @@ use Rattle.row_lists.specs.RowFields.Holds.{keep_if, stands_in, is_vex, opcode_h
 use Rattle.row_lists.proofs.RowFields.Apart.{bool_cases}
 use Rattle.row_lists.specs.RowFields.Candidates.{is_run}
 
+-- a run has as many rows as its count
 pub length-is_run : (first count : ℕ) (cs : List Coded) → is_run first count cs ≡ true → length cs ≡ count
 unfolding is_run
 length-is_run first count [] h = sym (eqb-true count 0 h)
@@ -18,6 +19,7 @@ length-is_run first count (c ∷ cs) h =
     let some : 0 < count = ltb-true 0 count (and_parts (nat_lt 0 count) (c.code == first) (and_parts here (is_run (suc first) (pred count) cs) h).0).0 in
     omega (arith, rest, some)
 
+-- and its codes follow one another
 pub code-is_run : (first count : ℕ) (cs : List Coded) → is_run first count cs ≡ true → (i : ℕ) (c : Coded) → slice_get cs i ≡ Some c → c.code ≡ first + i
 unfolding is_run
 code-is_run first count [] h i c at = cc
@@ -35,6 +37,7 @@ map-keep_if : (b : Bool) (c : Coded) (cs : List Coded) → map (λ x. x.row) (ke
 map-keep_if true c cs = refl
 map-keep_if false c cs = refl
 
+-- the rows of a cell are those from its first index on
 pub rows-of_cell : (number op first : ℕ) (rows : List Row)
     → map (λ c. c.row) (at_opcode op (of_number number (rows_with_codes first rows))) ≡ rows_at number op rows
 unfolding rows_with_codes of_number at_opcode rows_at

@@ -65,9 +65,11 @@ one-alone bits first (x ∷ xs) f code h (suc i) r at met =
     not_both : (b : Bool) → b ≡ true → b ≡ false → ⊥
     not_both b p q = cc
 
+-- if no code holds, no row's conditions hold
 pub nowhere : (bits : Bits) (rows : List Row) (f : Fields) → codes_holding bits 0 rows f ≡ [] → HoldsNowhere bits rows f
 nowhere bits rows f h code r at = none-false bits 0 rows f h code r at
 
+-- if one code holds, its row is the only one whose conditions hold
 pub only_row : (bits : Bits) (rows : List Row) (f : Fields) (code : ℕ) → codes_holding bits 0 rows f ≡ code ∷ [] → IsOnlyRow bits rows f code
 only_row bits rows f code h =
     let t = one-row bits 0 rows f code h in
@@ -79,6 +81,7 @@ only_row bits rows f code h =
       alone = λ other r at met. (let same : 0 + other ≡ code = one-alone bits 0 rows f code h other r at met in omega (arith, same));
     }
 
+-- if at most one code holds, two rows whose conditions hold are one
 pub apart : (bits : Bits) (rows : List Row) (f : Fields) → length (codes_holding bits 0 rows f) ≤ 1 → RowsAreApart bits rows f
 apart bits rows f h j k q r at-j at-k met-j met-k = by_length (codes_holding bits 0 rows f) refl h
   where

@@ -18,9 +18,11 @@ use Rattle.instruction_parts.specs.Bytes.{bit}
 use Rattle.row_lists.specs.RowFields.FieldNumbers.{plain_size, size_number}
 use Rattle.row_lists.specs.RowFields.Masks.{nth, allows, meets, two, three, four, reg_mask, rm_mask, marked_size, size_mask, masks, values}
 
+-- equal parts make equal conjunctions
 pub both : {a b c d : Bool} → a ≡ b → c ≡ d → (a && c) ≡ (b && d)
 both p q = cc
 
+-- a conjunction with true is the other part
 pub and-true : (a : Bool) → (a && true) ≡ a
 and-true true = refl
 and-true false = refl

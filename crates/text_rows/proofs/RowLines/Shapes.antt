@@ -20,6 +20,7 @@ each-shape part.X87 = refl
 each-shape part.Sse = refl
 each-shape part.Vex = refl
 
+-- the shape of each row is proper
 pub proper-row : (code : ℕ) (row : Row) → slice_get table code ≡ Some row → IsTrue (is_proper (shape row))
 unfolding has_shape
 proper-row code row at = in_each_part has_shape each-shape code row at

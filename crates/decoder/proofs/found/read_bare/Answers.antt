@@ -12,8 +12,8 @@ use Rattle.decoder.proofs.Finding.{same_some}
 use Rattle.decoder.proofs.Scanning.{late_by_either}
 use Rattle.decoder.proofs.found.read_bare.Goals as goal
 
-pub read_known_into-requires : goal.read_known_into-requires
-read_known_into-requires g c =
+pub read_fitting_into-requires : goal.read_fitting_into-requires
+read_fitting_into-requires g c =
     let bits = c.args.bits in
     let bytes = c.args.bytes.now in
     let state = c.args.state.now in
@@ -40,7 +40,7 @@ read_known_into-requires g c =
 
 pub returns-in-Some-clause-some : goal.returns-in-Some-clause-some
 returns-in-Some-clause-some g c = λ row there.
-    subst (λ (r : Row). RowReads c.args.bits c.args.ip c.args.code r c.args.bytes.now c.read_known_into.new.out)
+    subst (λ (r : Row). RowReads c.args.bits c.args.ip c.args.code r c.args.bytes.now c.read_fitting_into.new.out)
     (same_some c.row-row.result row (sym c.row-row.ensures.row ∙ there)) c.in-Some.ensures.some
 
 pub returns-in-None-clause-none : goal.returns-in-None-clause-none

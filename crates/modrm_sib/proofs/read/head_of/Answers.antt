@@ -10,6 +10,6 @@ pub returns-then-not-has_modrm-clause-sib : goal.returns-then-not-has_modrm-clau
 unfolding sib_in_range
 returns-then-not-has_modrm-clause-sib c = refl
 
-pub returns-then-not-has_sib-clause-sib : goal.returns-then-not-has_sib-clause-sib
+pub returns-then-not-takes_sib-clause-sib : goal.returns-then-not-takes_sib-clause-sib
 unfolding sib_in_range
-returns-then-not-has_sib-clause-sib c = refl
+returns-then-not-takes_sib-clause-sib c = refl

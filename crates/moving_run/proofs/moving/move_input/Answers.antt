@@ -18,29 +18,29 @@ move_blocks-requires-clause-placed c =
 
 pub returns-in-Ok-move_blocks : goal.returns-in-Ok-move_blocks
 returns-in-Ok-move_blocks c =
-    let answer = rw (c.deref.ensures.value, c.deref-2.ensures.value) at c.in-Ok-move_blocks.ensures in
+    let answer = rw (c.deref.ensures.value, c.deref-2.ensures.value) at c.in-Ok-move_blocks.ensures.answer in
     moves c.blocks_have_all_items.ensures _ _ _ c.in-Ok.code c.in-Ok.ensures c.if-count.false (sym c.in_default.ensures) c.in-Ok-move_blocks.moved answer
 
 pub returns-in-Err-TooMany : goal.returns-in-Err-TooMany
 returns-in-Err-TooMany c =
-    let told = rw c.in-Err-TooMany.field-0-is at c.in-Err-TooMany.ensures in
+    let told = rw c.in-Err-TooMany.field-0-is at c.in-Err-TooMany.ensures.answer in
     let answer = rw c.deref.ensures.value at told in
     refuses c.blocks_have_all_items.ensures _ _ _ c.in-Ok.code c.in-Ok.ensures c.if-count.false (sym c.in_default.ensures) (error.TooMany c.in-Err-TooMany.count) answer
 
 pub unreachable-requires : goal.unreachable-requires
 unreachable-requires c =
-    let told = rw c.in-Err-OldOrder.field-0-is at c.in-Err-OldOrder.ensures in
+    let told = rw c.in-Err-OldOrder.field-0-is at c.in-Err-OldOrder.ensures.answer in
     let answer = rw (c.deref.ensures.value, c.deref-2.ensures.value) at told in
     ordered c.blocks_have_all_items.ensures _ _ _ c.in-Ok.code c.in-Ok.ensures c.if-count.false (sym c.in_default.ensures) c.in-Err-OldOrder.field-0-0 answer
 
 pub returns-in-Err-Wraps : goal.returns-in-Err-Wraps
 returns-in-Err-Wraps c =
-    let told = rw c.in-Err-Wraps.field-0-is at c.in-Err-Wraps.ensures in
+    let told = rw c.in-Err-Wraps.field-0-is at c.in-Err-Wraps.ensures.answer in
     let answer = rw (c.deref.ensures.value, c.deref-2.ensures.value) at told in
     refuses c.blocks_have_all_items.ensures _ _ _ c.in-Ok.code c.in-Ok.ensures c.if-count.false (sym c.in_default.ensures) (error.Wraps c.in-Err-Wraps.end) answer
 
 pub returns-in-Err-TooFar : goal.returns-in-Err-TooFar
 returns-in-Err-TooFar c =
-    let told = rw c.in-Err-TooFar.field-0-is at c.in-Err-TooFar.ensures in
+    let told = rw c.in-Err-TooFar.field-0-is at c.in-Err-TooFar.ensures.answer in
     let answer = rw (c.deref.ensures.value, c.deref-2.ensures.value) at told in
     refuses c.blocks_have_all_items.ensures _ _ _ c.in-Ok.code c.in-Ok.ensures c.if-count.false (sym c.in_default.ensures) (error.TooFar c.in-Err-TooFar.at c.in-Err-TooFar.target) answer
