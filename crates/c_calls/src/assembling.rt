@@ -7,11 +7,11 @@ ghost use Rattle.c_calls.specs.Back.{instr_back};
 ghost use Rattle.c_calls.specs.Flat.{flat_instr};
 ghost use Rattle.c_calls.specs.Numbers.{bits_numbered};
 
+use crate::buffers::put_bytes;
 use crate::flat::FlatInstr;
 use crate::flatten::flat_decoded;
 use crate::numbers::bits_numbered;
 use crate::refusal::{Refusal, refusal_status};
-use crate::room::put_bytes;
 use arrayvec::ArrayVec;
 use encoder::encoded_len;
 use intel_reader::TextError;

@@ -3,11 +3,11 @@
 ghost use Rattle.std.specs.Prelude.{◌≡◌, ◌≤◌, ◌++◌, length, drop};
 ghost use Rattle.c_calls.specs.Blocks as spec;
 
+use crate::buffers::write_front;
 use crate::flat::{FlatBlock, FlatBlocks, FlatMoved, FlatPlace};
 use crate::moved_blocks::{BlocksRefusal, CodeBlocks, moved_blocks};
 use crate::moving::write_entries;
 use crate::refusal::{Refusal, refusal_status};
-use crate::room::write_front;
 use decoder::DecodeError;
 use std::alloc::Global;
 
@@ -89,7 +89,7 @@ fn blocks_report(n: u64, answer: &Result<CodeBlocks, BlocksRefusal>) -> FlatBloc
     }
 }
 
-/// Writes places at the front of a room.
+/// Writes places at the start of a buffer.
 fn write_places(room: &mut [FlatPlace], places: &[FlatPlace])
     requires { length places.now ≤ length room.old }
     ensures { room.new ≡ places.now ++ drop (length places.now) room.old }
@@ -97,7 +97,7 @@ fn write_places(room: &mut [FlatPlace], places: &[FlatPlace])
     room[..places.len()].copy_from_slice(places);
 }
 
-/// Writes the moved bytes, the places and the map, where the rooms hold them.
+/// Writes the moved bytes, the places and the map, if the buffers hold them.
 #[tactic(auto, unfolding(crate::specs::Blocks::blocks_within))]
 fn put_blocks(
     answer: &Result<CodeBlocks, BlocksRefusal>,

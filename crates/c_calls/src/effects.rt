@@ -8,11 +8,11 @@ ghost use Rattle.c_calls.specs.Back.{instr_back};
 ghost use Rattle.c_calls.specs.Effects as spec;
 ghost use Rattle.c_calls.specs.Numbers.{bits_numbered};
 
+use crate::buffers::put_text;
 use crate::flat::{FlatInstr, FlatMemoryUse, FlatTouched, FlatUse};
 use crate::flatten::{base_class, base_number};
 use crate::numbers::{bits_numbered, class_number, prefix_number, register_numbered};
 use crate::refusal::{Refusal, refusal_status};
-use crate::room::put_text;
 use crate::unflatten::instr_back;
 use bitflags::Flags;
 use instruction_info::{
@@ -45,7 +45,7 @@ const NO_USE: FlatUse = FlatUse {
     access: 0,
 };
 
-/// Register `n`, zeros where there are no more.
+/// Register `n`, zeros if there are no more.
 #[tactic(auto, unfolding(crate::specs::Effects::register_at))]
 fn register_at(uses: &[RegisterUse], n: usize) -> FlatUse
     ensures { result ≡ spec.register_at uses.now n }
@@ -91,7 +91,7 @@ pub(crate) const NO_MEMORY: FlatMemoryUse = FlatMemoryUse {
     access: 0,
 };
 
-/// Memory `n`, zeros where there is no more.
+/// Memory `n`, zeros if there is no more.
 #[tactic(auto, unfolding(crate::specs::Effects::memory_at))]
 fn memory_at(uses: &[MemoryUse], n: usize) -> FlatMemoryUse
     ensures { result ≡ spec.memory_at uses.now n }

@@ -7,16 +7,16 @@ ghost use Rattle.encoder.specs.Encoding.{encoding};
 ghost use Rattle.x86_values.specs.Operands.{is_memory};
 ghost use Rattle.c_calls.specs.Answers as spec;
 
+use crate::buffers::put_bytes;
 use crate::flat::{FlatInstr, FlatOperand};
 use crate::numbers::bits_numbered;
 use crate::refusal::{Refusal, refusal_status};
-use crate::room::put_bytes;
 use crate::unflatten::instr_back_into;
 use decoder::UNREAD;
 use encoder::NoSpelling;
 use x86_values::{Bits, Instr, Operand};
 
-/// The number of the first of four tests that passes, 0 where none does.
+/// The number of the first of four tests that passes, 0 if none does.
 fn first_place(a: bool, b: bool, c: bool, d: bool) -> u8
     ensures { result ≡ spec.first_place a b c d }
 {
@@ -33,7 +33,7 @@ fn first_place(a: bool, b: bool, c: bool, d: bool) -> u8
     }
 }
 
-/// The number of the first operand that is memory, 0 where none is.
+/// The number of the first operand that is memory, 0 if none is.
 fn memory_place(instr: &Instr) -> u8
     ensures { result ≡ spec.first_operand is_memory instr.now }
 {
@@ -48,7 +48,7 @@ fn may_have_target(op: &Operand) -> bool
     matches!(op, Operand::Mem(_) | Operand::Near(_))
 }
 
-/// The number of the first operand that can have a target, 0 where none can.
+/// The number of the first operand that can have a target, 0 if none can.
 fn target_place(instr: &Instr) -> u8
     ensures { result ≡ spec.first_operand spec.may_have_target instr.now }
 {
@@ -61,7 +61,7 @@ fn target_place(instr: &Instr) -> u8
     )
 }
 
-/// The operand that fails a condition, 0 where the condition is of the whole instruction.
+/// The operand that fails a condition, 0 if the condition is of the whole instruction.
 fn failing_operand(instr: &Instr, why: NoSpelling) -> u8
     ensures { result ≡ spec.failing_operand instr.now why }
 {
@@ -108,7 +108,7 @@ fn is_open(op: &FlatOperand) -> bool
     op.kind == 2 && op.disp_bits == 255
 }
 
-/// An operand with this width where it is left to the library.
+/// An operand with this width if it is left to the library.
 fn with_width(width: u8, op: &FlatOperand) -> FlatOperand
     ensures { result ≡ spec.with_width width op.now }
 {
@@ -122,7 +122,7 @@ fn with_width(width: u8, op: &FlatOperand) -> FlatOperand
     }
 }
 
-/// A struct with this width where it is left to the library.
+/// A struct with this width if it is left to the library.
 #[tactic(auto, unfolding(crate::specs::Answers::of_width))]
 fn of_width(width: u8, f: &FlatInstr) -> FlatInstr
     ensures { result ≡ spec.of_width width f.now }
@@ -166,7 +166,7 @@ fn width_of(bits: u32, ip: u64, f: &FlatInstr) -> u8
     }
 }
 
-/// A struct whose displacement has a width: its own, or the shortest where that is left to the library.
+/// A struct whose displacement has a width: its own, or the shortest if that is left to the library.
 #[tactic(auto, using(crate::proofs::Widths::of_width_closed))]
 pub(crate) fn with_displacement_size(bits: u32, ip: u64, f: &FlatInstr) -> FlatInstr
     ensures { result ≡ spec.with_displacement_size bits ip f.now }
@@ -178,7 +178,7 @@ pub(crate) fn with_displacement_size(bits: u32, ip: u64, f: &FlatInstr) -> FlatI
     }
 }
 
-/// Writes the plain spelling of an instruction where the room holds it, and says how many bytes it has.
+/// Writes the plain spelling of an instruction if the buffer holds it, and returns how many bytes it has.
 #[inline(always)]
 #[tactic(auto, unfolding(crate::specs::Answers::bytes_within))]
 fn put_encoding(bits: Bits, ip: u64, instr: &Instr, out: &mut [u8]) -> i32

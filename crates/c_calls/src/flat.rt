@@ -44,7 +44,7 @@ pub struct FlatInstr {
     pub rep: u8,
     /// The segment prefix, 1 to 6 for ES, CS, SS, DS, FS and GS, else 0.
     pub segment: u8,
-    /// The address size: 16, 32 or 64, or 0 where the instruction has none.
+    /// The address size: 16, 32 or 64, or 0 if the instruction has none.
     pub asize: u8,
 }
 
@@ -66,19 +66,19 @@ pub struct FlatInfo {
     pub target: u64,
     /// The address of the memory operand that RIP or EIP is the base of, 0 without one.
     pub ip_address: u64,
-    /// 1 where there is a near target, else 0.
+    /// 1 if there is a near target, else 0.
     pub has_target: u8,
-    /// 1 where there is a memory operand at RIP or EIP, else 0.
+    /// 1 if there is a memory operand at RIP or EIP, else 0.
     pub has_ip_address: u8,
     /// Where control goes, 0 to 8.
     pub flow: u8,
-    /// The size of the memory operand in bytes, 0 to 32; 0 where there is none, or none of a size.
+    /// The size of the memory operand in bytes, 0 to 32; 0 if there is none, or none of a size.
     pub memory_size: u8,
     /// What is done to each operand, as in a use.
     pub access: [u8; 4],
     /// How many registers are named, at most 8.
     pub use_count: u8,
-    /// Those registers, and behind them zeros.
+    /// Those registers, then zeros.
     pub uses: [FlatUse; 8],
 }
 
@@ -88,7 +88,7 @@ pub struct FlatInfo {
 pub struct FlatMemoryUse {
     /// The displacement, cut to the address size; at the base RIP or EIP the absolute address.
     pub displacement: u64,
-    /// How many bytes, 0 where that is not known.
+    /// How many bytes, 0 if that is not known.
     pub size: u16,
     /// The segment register, 1 to 6 for ES, CS, SS, DS, FS and GS.
     pub segment: u8,
@@ -120,13 +120,13 @@ pub struct FlatTouched {
     pub flags_cleared: u32,
     /// Those of them that become 1.
     pub flags_set: u32,
-    /// The flags that are undefined behind it.
+    /// The flags that are undefined after it.
     pub flags_undefined: u32,
     /// Those of the written and undefined that it may leave as they were.
     pub flags_kept: u32,
-    /// The memory, at most four uses, and behind them zeros.
+    /// The memory, at most four uses, then zeros.
     pub memory: [FlatMemoryUse; 4],
-    /// The registers, at most 32 uses, and behind them zeros.
+    /// The registers, at most 32 uses, then zeros.
     pub registers: [FlatUse; 32],
     /// How many uses of memory there are.
     pub memory_count: u8,
@@ -162,7 +162,7 @@ pub struct FlatMove {
     pub address: u64,
     /// How many bytes the moved code has before the gap and its slots.
     pub code_bytes: u64,
-    /// The offset of the first slot; how many bytes there are where there is none.
+    /// The offset of the first slot; the number of bytes if there is none.
     pub slots_at: u64,
 }
 
@@ -174,7 +174,7 @@ pub struct FlatBlock {
     pub old_ip: u64,
     /// That address after.
     pub new_ip: u64,
-    /// Where its first byte stands in the bytes of all blocks.
+    /// The offset of its first byte in the bytes of all blocks.
     pub offset: u64,
     /// How many bytes it has.
     pub len: u64,
@@ -200,7 +200,7 @@ pub struct FlatBlocks {
     pub bytes: u64,
     /// How many instructions they have together.
     pub count: u64,
-    /// The number of the block that fails, from 0; how many there are where that is not told.
+    /// The number of the block that fails, from 0; the number of blocks if no block is named.
     pub block: u64,
     /// In this block the offset of the byte at which none is read, or the number of the instruction that does not reach its target.
     pub at: u64,
@@ -216,17 +216,17 @@ pub struct FlatDetour {
     pub taken: u64,
     /// How many bytes the trampoline has.
     pub bytes: u64,
-    /// The offset of its jump back; how many bytes there are where there is none.
+    /// The offset of its jump back; the number of bytes if there is none.
     pub jump_back: u64,
-    /// The offset of the first slot; how many bytes there are where there is none.
+    /// The offset of the first slot; the number of bytes if there is none.
     pub slots_at: u64,
-    /// The offset of the relay; how many bytes there are where there is none.
+    /// The offset of the relay; the number of bytes if there is none.
     pub relay_at: u64,
     /// The offset at which the code ends or does not go on as it has to, or the number of the instruction that does not reach its target.
     pub at: u64,
     /// The offset that is entered, the target that is not reached, how many bytes the jump has, or the end that passes the address space.
     pub target: u64,
-    /// The form of the jump: 1 near, 2 near to a relay, 3 with the address behind it; 0 without a detour.
+    /// The form of the jump: 1 near, 2 near to a relay, 3 followed by the address; 0 without a detour.
     pub form: u8,
 }
 
@@ -236,7 +236,7 @@ pub struct FlatDetour {
 pub struct FlatStep {
     /// How many bytes the code has.
     pub bytes: u64,
-    /// The offset of its jump back, behind the image of the instruction.
+    /// The offset of its jump back, at the end of the image of the instruction.
     pub back_at: u64,
     /// The target that is not reached, or the end that passes the address space.
     pub address: u64,
@@ -272,11 +272,11 @@ pub struct FlatLive {
 pub struct FlatPart {
     /// The offset of its first byte from the first one of the instruction.
     pub at: u8,
-    /// How many bytes it has, 0 where it is not there.
+    /// How many bytes it has, 0 if it is not there.
     pub len: u8,
 }
 
-/// Where the parts of an instruction stand in its bytes, in their order.
+/// Where the parts of an instruction are in its bytes, in their order.
 #[derive(Clone, Copy)]
 #[repr(C)]
 pub struct FlatOffsets {
@@ -289,8 +289,8 @@ pub struct FlatOffsets {
     pub modrm: FlatPart,
     pub sib: FlatPart,
     pub displacement: FlatPart,
-    /// The bytes behind the displacement that are the first operand's own, and so on: an immediate, an offset of a branch, a far pointer, or the byte
-    /// that names a register.
+    /// The bytes after the displacement that are the first operand's own, and so on: an immediate, an offset of a branch, a far pointer, or the byte that names
+    /// a register.
     pub immediate0: FlatPart,
     pub immediate1: FlatPart,
     pub immediate2: FlatPart,

@@ -120,7 +120,7 @@ fn present_into(operand: &Operand, out: &mut FlatOperand)
     }
 }
 
-/// Writes an operand, where there is one, to its place in a struct.
+/// Writes an operand, if there is one, to its place in a struct.
 #[inline(always)]
 #[tactic(auto, unfolding(crate::specs::Flat::flat_operand))]
 fn operand_into(operand: &Operand, out: &mut FlatOperand)

@@ -4,9 +4,9 @@ ghost use Rattle.std.specs.Prelude.{◌≡◌, ◌<◌, ◌≤◌, ◌++◌, ◌
 ghost use Rattle.c_calls.specs.Numbers.{bits_numbered};
 ghost use Rattle.c_calls.specs.Flow as spec;
 
+use crate::buffers::count_answer;
 use crate::numbers::bits_numbered;
 use crate::refusal::{Refusal, refusal_status};
-use crate::room::count_answer;
 use flow_graph::{FlowError, FlowGraph, flow_graph_in};
 use std::alloc::Global;
 
@@ -29,7 +29,7 @@ fn graph_of(alloc: Global, bits: u32, base: u64, bytes: &[u8]) -> Result<FlowGra
     }
 }
 
-/// Writes numbers at the front of a room.
+/// Writes numbers at the start of a buffer.
 pub(crate) fn write_numbers(out: &mut [u32], numbers: &[u32])
     requires { length numbers.now ≤ length out.old }
     ensures { out.new ≡ numbers.now ++ drop (length numbers.now) out.old }
@@ -37,7 +37,7 @@ pub(crate) fn write_numbers(out: &mut [u32], numbers: &[u32])
     out[..numbers.len()].copy_from_slice(numbers);
 }
 
-/// Writes the lists of a graph where both rooms hold them, and says how many offsets are reached.
+/// Writes the lists of a graph if both buffers hold them, and returns how many offsets are reached.
 #[tactic(auto, unfolding(crate::specs::Flow::graph_within))]
 fn put_graph(graph: &FlowGraph, starts: &mut [u32], leaders: &mut [u32]) -> i32
     requires few { length graph.now.starts < 2 ^ 31 }

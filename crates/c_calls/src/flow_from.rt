@@ -4,11 +4,11 @@ ghost use Rattle.std.specs.Prelude.{◌≡◌, ◌<◌, ◌≤◌, ◌++◌, ◌
 ghost use Rattle.c_calls.specs.Numbers.{bits_numbered};
 ghost use Rattle.c_calls.specs.FlowFrom as spec;
 
+use crate::buffers::count_answer;
 use crate::flow::write_numbers;
 use crate::info::flow_number;
 use crate::numbers::bits_numbered;
 use crate::refusal::{Refusal, refusal_status};
-use crate::room::count_answer;
 use decoder::DecodeError;
 use flow_graph::{FlowError, FlowGraph, flow_graph_from};
 use operand_info::Flow;
@@ -39,7 +39,7 @@ fn graph_from(
     }
 }
 
-/// The flow of the instruction at a start, or the number that says why none is read: 0xfe for `TooShort` and 0xff for `Invalid`.
+/// The flow of the instruction at a start, or the number of the cause that none is read: 0xfe for `TooShort` and 0xff for `Invalid`.
 fn kind_number(flow: Result<Flow, DecodeError>) -> u8
     ensures { result ≡ spec.flow_kind_number flow }
 {
@@ -50,7 +50,7 @@ fn kind_number(flow: Result<Flow, DecodeError>) -> u8
     }
 }
 
-/// Writes what is read at the starts at the front of a room.
+/// Writes what is read at the starts at the start of a buffer.
 fn write_kinds(out: &mut [u8], flows: &[Result<Flow, DecodeError>])
     requires { length flows.now ≤ length out.old }
     ensures { out.new ≡ map spec.flow_kind_number flows.now ++ drop (length flows.now) out.old }
@@ -60,7 +60,7 @@ fn write_kinds(out: &mut [u8], flows: &[Result<Flow, DecodeError>])
     }
 }
 
-/// Writes the lists of a graph where all three rooms hold them, and says how many offsets are reached.
+/// Writes the lists of a graph if all three buffers hold them, and returns how many offsets are reached.
 #[tactic(auto, unfolding(crate::specs::FlowFrom::graph_within))]
 fn put_graph(graph: &FlowGraph, starts: &mut [u32], leaders: &mut [u32], kinds: &mut [u8]) -> i32
     requires few { length graph.now.starts < 2 ^ 31 }

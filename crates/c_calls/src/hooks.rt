@@ -4,10 +4,10 @@ ghost use Rattle.std.specs.Prelude.{◌≡◌, length};
 ghost use Rattle.c_calls.specs.Numbers.{bits_numbered};
 ghost use Rattle.c_calls.specs.Hooks as spec;
 
+use crate::buffers::write_front;
 use crate::flat::FlatDetour;
 use crate::numbers::bits_numbered;
 use crate::refusal::{Refusal, refusal_status};
-use crate::room::write_front;
 use decoder::DecodeError;
 use detour::{Detour, DetourError, JumpForm, StartTarget, detour};
 use std::alloc::Global;
@@ -20,13 +20,13 @@ const MOST: usize = 1_048_576;
 pub(crate) enum HookRefusal {
     /// The mode is none.
     Mode,
-    /// Nothing stands for what becomes of the function's own start.
+    /// The number of what becomes of the function\'s own start is neither of the two.
     Start,
     /// There are more than 1,048,576 bytes.
     TooLarge,
     /// There is no detour, for this cause.
     NoDetour(DetourError),
-    /// A room is too small.
+    /// A buffer is too small.
     Room,
 }
 
@@ -136,7 +136,7 @@ fn jump_number(form: JumpForm) -> u8
     }
 }
 
-/// Where a part stands, and the end where there is none.
+/// The offset of a part, and the end if there is none.
 fn offset_or(offset: Option<usize>, end: u64) -> u64
     ensures { result ≡ spec.offset_or offset end }
 {
@@ -146,7 +146,7 @@ fn offset_or(offset: Option<usize>, end: u64) -> u64
     }
 }
 
-/// Where a jump back stands, and the end where there is none.
+/// The offset of a jump back, and the end if there is none.
 fn jump_back_or(offset: Option<u64>, end: u64) -> u64
     ensures { result ≡ spec.offset_or offset end }
 {
@@ -210,7 +210,7 @@ fn hook_of(
     }
 }
 
-/// Writes the patch and the trampoline, where both rooms hold them.
+/// Writes the patch and the trampoline, if both buffers hold them.
 #[tactic(auto, unfolding(crate::specs::Hooks::hook_within))]
 fn put_hook(answer: &Result<Detour, HookRefusal>, patch: &mut [u8], trampoline: &mut [u8]) -> i32
     ensures said { result ≡ spec.hook_said (spec.hook_within (length patch.old) (length trampoline.old) answer.now) }

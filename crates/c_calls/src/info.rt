@@ -45,7 +45,7 @@ pub(crate) fn access_number(access: Access) -> u8
     }
 }
 
-/// Use `n`, zeros where there are no more.
+/// Use `n`, zeros if there are no more.
 #[tactic(auto, unfolding(crate::specs::Info::use_at))]
 fn use_at(uses: &[RegUse], n: usize) -> FlatUse
     ensures { result ≡ spec.use_at uses.now n }
@@ -64,7 +64,7 @@ fn use_at(uses: &[RegUse], n: usize) -> FlatUse
     }
 }
 
-/// 1 where there is a value, else 0.
+/// 1 if there is a value, else 0.
 fn presence(value: Option<u64>) -> u8
     ensures { result ≡ spec.presence value }
 {
@@ -84,7 +84,7 @@ fn value_or_zero(value: Option<u64>) -> u64
     }
 }
 
-/// The bytes of the memory operand of an instruction, 0 where no operand is memory.
+/// The bytes of the memory operand of an instruction, 0 if no operand is memory.
 #[tactic(auto, unfolding(crate::specs::Info::memory_bytes))]
 fn memory_bytes(instr: &Instr) -> u8
     requires { instr.now.code.0 < ROWS }

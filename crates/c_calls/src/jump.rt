@@ -5,10 +5,10 @@ ghost use Rattle.arrayvec.specs.ArrayVec.{array_vec_len};
 ghost use Rattle.c_calls.specs.Answers as said;
 ghost use Rattle.c_calls.specs.Jumps as spec;
 
+use crate::buffers::put_bytes;
 use crate::encoding::no_spelling;
 use crate::numbers::bits_numbered;
 use crate::refusal::{Refusal, refusal_status};
-use crate::room::put_bytes;
 use arrayvec::ArrayVec;
 use encoder::encode;
 use instruction_parts::append::append_few;
@@ -23,15 +23,15 @@ pub(crate) enum JumpForm {
     ShortJump,
     /// A jump with an offset of 16 or 32 bits.
     NearJump,
-    /// A jump to the address that stands behind it.
+    /// A jump to the address that follows it.
     FarJump,
     /// A call with an offset of 16 or 32 bits.
     NearCall,
-    /// A call of the address that stands behind it, and behind the jump over that.
+    /// A call of the address that follows it, after a jump over that.
     FarCall,
 }
 
-/// The bytes of a form: an instruction, and at most ten behind it.
+/// The bytes of a form: an instruction, followed by at most ten.
 type JumpBytes = ArrayVec<u8, 32>;
 
 /// The form of a number.
@@ -69,7 +69,7 @@ fn jump_instr(bits: Bits, at: u64, target: u64, form: JumpForm) -> Instr
     }
 }
 
-/// Appends what stands behind the instruction of a form.
+/// Appends what follows the instruction of a form.
 #[tactic(auto, unfolding(crate::specs::Jumps::behind_jump))]
 fn append_behind(bytes: &mut JumpBytes, target: u64, form: JumpForm)
     requires { array_vec_len bytes.old ≤ 15 }

@@ -1,4 +1,4 @@
-//! What holds of the structs, of regions, and of the rooms that are always enough, as the contracts of functions that do nothing.
+//! What holds of the structs, of regions, and of the sizes of buffers, as the contracts of functions that do nothing.
 
 ghost use Rattle.std.specs.Prelude.{◌≡◌, ℕ, ◌-◌, ◌%◌, ◌^◌, ◌<◌, ◌≤◌, List, Option, IsTrue, length, slice_get, slice_index_or, Some, Ok, Err};
 ghost use Rattle.x86_values.specs.declared.Bits.{Bits};
@@ -71,14 +71,14 @@ pub fn code_ends_with_its_images()
     block_encoder::laws::plans_lay_out_their_items();
 }
 
-/// The operand that [`encode`](crate::encoding::encode) tells with a cause fails the condition of that cause: it is the first that does. Of an address, a displacement and a
+/// The operand that [`encode`](crate::encoding::encode) returns with a cause fails the condition of that cause: it is the first that does. Of an address, a displacement and a
 /// target it is the only one, since no row has two operands that can be memory or a near target.
 pub fn told_operands_fail()
     ensures { (bits : Bits) (ip : ℕ) (row : Row) (i : Instr) (why : NoSpelling) → slice_get table i.code.0 ≡ Some row → encoding bits ip i ≡ Err why
         → IsFailing bits (modulo_width bits ip) row i why }
 {}
 
-/// Each live block of a region stands a multiple of 16 bytes behind its base and takes a multiple of 16 bytes, and so does each place that is handed out in
+/// Each live block of a region starts a multiple of 16 bytes after its base and has a multiple of 16 bytes, and so does each place that is handed out in
 /// it.
 pub fn regions_are_in_units()
     ensures live { (region : FlatRegion) (blocks : List FlatLive) → IsTrue (is_region region blocks) → AreInUnits (region_of region blocks) }
@@ -88,7 +88,7 @@ pub fn regions_are_in_units()
     code_region::laws::places_are_gaps();
 }
 
-/// The code of a step at a place that is handed out in a region has no more bytes than [`step_len`](crate::stepping::step_len) says for the base of that.
+/// The code of a step at a place that is handed out in a region has no more bytes than [`step_len`](crate::stepping::step_len) returns for the base of that region.
 pub fn steps_fit_their_places()
     ensures { (region : FlatRegion) (blocks : List FlatLive) (len place : ℕ) → IsTrue (is_region region blocks)
         → place_answer (region_of region blocks) len ≡ Ok place
@@ -117,25 +117,25 @@ pub fn jumps_are_short()
     encoder::laws::spelled_meets_conditions();
 }
 
-/// The text of a register has at most 6 bytes, so that a room of 7 holds it.
+/// The text of a register has at most 6 bytes, so that a buffer of 7 holds it with the terminating 0.
 pub fn register_texts_are_short()
     ensures registers { (syntax class n : ℕ) → HasAtMost 6 (register_answer syntax class n) }
     ensures segments { (syntax prefix : ℕ) → HasAtMost 6 (segment_answer syntax prefix) }
 {}
 
-/// The name of a feature has at most 10 bytes, so that a room of 11 holds it.
+/// The name of a feature has at most 10 bytes, so that a buffer of 11 holds it with the terminating 0.
 pub fn feature_names_are_short()
     ensures { (bit : ℕ) → HasAtMost 10 (feature_answer bit) }
 {}
 
-/// The name of a row has at most 16 bytes, so that a room of 17 holds it.
+/// The name of a row has at most 16 bytes, so that a buffer of 17 holds it with the terminating 0.
 pub fn row_names_are_short()
     ensures { (code : ℕ) → HasAtMost 16 (name_answer code) }
 {
     opcode_rows::laws::names_are_words();
 }
 
-/// The notation of the row of a code has at most 64 bytes, so that a room of 65 holds it.
+/// The notation of the row of a code has at most 64 bytes, so that a buffer of 65 holds it with the terminating 0.
 #[tactic(auto, unfolding(crate::specs::Answers::notation_answer))]
 pub fn notations_are_short(code: u32)
     ensures { HasAtMost 64 (notation_answer code) }
@@ -148,7 +148,7 @@ pub fn notations_are_short(code: u32)
     }
 }
 
-/// The word of the kind of an operand has at most 5 bytes, so that a room of 6 holds it.
+/// The word of the kind of an operand has at most 5 bytes, so that a buffer of 6 holds it with the terminating 0.
 pub fn kind_words_are_short()
     ensures { (code index : ℕ) → HasAtMost 5 (kind_answer code index) }
 {}
@@ -173,7 +173,7 @@ pub fn encodings_are_short(bits: u32, ip: u64, instr: &FlatInstr)
     let _ = encode(bits, ip, &read);
 }
 
-/// The text of the instruction of a struct has at most 160 bytes, so that a room of 161 holds it.
+/// The text of the instruction of a struct has at most 160 bytes, so that a buffer of 161 holds it with the terminating 0.
 #[tactic(auto, unfolding(crate::specs::Answers::instr_text_of))]
 pub fn texts_are_short(bits: u32, syntax: u32, instr: &FlatInstr)
     ensures { HasAtMost 160 (text_answer bits syntax instr.now) }

@@ -1,13 +1,14 @@
-//! The calls of the library for C: instructions of 16, 32 and 64-bit x86 read, written, told and moved, through plain numbers, structs of numbers and rooms
-//! of the caller's. `feddurzai_c` hands them to C, and says there what a C programmer has to know of each.
+//! The calls of the library for C: instructions of 16, 32 and 64-bit x86 are read, written, described and moved, through plain numbers, structs of numbers
+//! and caller-provided buffers. `feddurzai_c` exports them, and documents each for a C programmer.
 //!
-//! Each call takes any values at all. What is no mode, no instruction, no row or too small a room is answered by a number below zero, and nothing is left in
-//! a room or a struct beside what a call says.
+//! Each call accepts any values. If a number is no mode, a struct is no instruction or a buffer is too small, it returns a number below zero. It writes
+//! nothing beside what its contract states.
 #![tactic(auto)]
 
 pub mod assembling;
 mod block_places;
 pub mod blocks;
+mod buffers;
 mod code_len;
 pub mod decoding;
 pub mod effects;
@@ -31,7 +32,6 @@ pub mod offsets;
 mod refusal;
 pub mod region;
 mod region_search;
-mod room;
 pub mod row_operands;
 pub mod rows;
 pub mod stepping;

@@ -4,18 +4,18 @@ ghost use Rattle.std.specs.Prelude.{◌≡◌};
 ghost use Rattle.c_calls.specs.Numbers.{bits_numbered, style_numbered};
 ghost use Rattle.c_calls.specs.Lines as spec;
 
+use crate::buffers::write_text;
 use crate::flat::FlatInstr;
 use crate::flatten::flat_into;
 use crate::numbers::{bits_numbered, style_numbered};
 use crate::refusal::{Refusal, refusal_status};
-use crate::room::write_text;
 use crate::texts::append_style_text;
 use decoder::{DecodeError, UNREAD, decode_onto};
 use text_parts::style::Style;
 use text_parts::text::Text;
 use x86_values::{Bits, Decoded};
 
-/// Reads an instruction to a place and writes its text in a style, where the room holds it. After a refusal nothing is said of the place.
+/// Reads an instruction to a place and writes its text in a style, if the buffer holds it. After a refusal the place may hold anything.
 #[inline(always)]
 #[tactic(auto, unfolding(crate::specs::Lines::text_line_of))]
 fn line_in(

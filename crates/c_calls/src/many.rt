@@ -5,11 +5,11 @@ ghost use Rattle.decoder.specs.Answer.{reading_of};
 ghost use Rattle.c_calls.specs.Numbers.{bits_numbered};
 ghost use Rattle.c_calls.specs.Many as spec;
 
+use crate::buffers::count_answer;
 use crate::flat::FlatInstr;
 use crate::flatten::{ABSENT, flat_decoded};
 use crate::numbers::bits_numbered;
 use crate::refusal::{Refusal, refusal_status};
-use crate::room::count_answer;
 use decoder::DecodeError;
 use sweep::sweep_text::laws::items_stand_in_turn;
 use sweep::sweep_text::{item_len, read_at};
@@ -25,7 +25,7 @@ struct Swept {
     taken: usize,
 }
 
-/// A single byte at which no instruction stands, by the code that says why.
+/// A single byte at which no instruction starts, by the code of the cause.
 const fn single_byte(code: u16) -> FlatInstr
     ensures { result ≡ spec.single_byte code }
 {
@@ -54,7 +54,7 @@ fn flat_reading(reading: &Result<Decoded, DecodeError>) -> FlatInstr
     }
 }
 
-/// Goes through some bytes item by item, and writes their structs as far as the room goes.
+/// Goes through some bytes item by item, and writes their structs as far as there are structs.
 fn sweep_into(bits: Bits, ip: u64, bytes: &[u8], instrs: &mut [FlatInstr]) -> Swept
     ensures swept { spec.IsManyIn bits ip bytes.now instrs.old instrs.new result.count result.taken }
     ensures few { result.taken < 2 ^ 31 }

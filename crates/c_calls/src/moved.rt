@@ -51,7 +51,7 @@ pub(crate) enum MoveRefusal {
     Wraps { end: u128 },
     /// The instruction of this number does not reach this address.
     TooFar { at: u64, target: u64 },
-    /// A room is too small.
+    /// A buffer is too small.
     Room,
 }
 
@@ -192,7 +192,7 @@ fn move_items(
     }
 }
 
-/// The address behind the old code. No bytes are an empty block, whose old end is its new base.
+/// The address after the old code. No bytes are an empty block, whose old end is its new base.
 pub(crate) fn code_end(old: u64, bytes: &[u8], new: u64) -> u128
     ensures { result ≡ spec.moved_end old bytes.now new }
 {

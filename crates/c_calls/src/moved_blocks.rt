@@ -66,11 +66,11 @@ pub(crate) enum BlocksRefusal {
         at: u64,
         target: u64,
     },
-    /// A room is too small.
+    /// A buffer is too small.
     Room,
 }
 
-/// The instructions of some blocks one behind another, and for each block how many there are and where they move.
+/// The instructions of some blocks one after another, and for each block how many there are and where they move.
 #[derive(Drop)]
 struct ReadBlocks {
     items: Vec<Placed>,

@@ -3,10 +3,10 @@
 ghost use Rattle.std.specs.Prelude.{◌≡◌, ◌≤◌, ◌++◌, length, drop};
 ghost use Rattle.c_calls.specs.Moving as spec;
 
+use crate::buffers::write_front;
 use crate::flat::{FlatMove, FlatMoved};
 use crate::moved::{MoveRefusal, MovedCode, Targets, moved_code};
 use crate::refusal::{Refusal, refusal_status};
-use crate::room::write_front;
 use block_encoder::Moved;
 use decoder::DecodeError;
 use std::alloc::Global;
@@ -60,7 +60,7 @@ fn refusal_report(why: MoveRefusal) -> FlatMove
     }
 }
 
-/// The offset of the first slot, and how many bytes there are where there is none.
+/// The offset of the first slot, and the number of bytes if there is none.
 fn slots_offset(moved: &Moved) -> u64
     ensures { result ≡ spec.slots_offset moved.now }
 {
@@ -84,7 +84,7 @@ fn report_of(answer: &Result<MovedCode, MoveRefusal>) -> FlatMove
     }
 }
 
-/// Writes entries at the front of a room.
+/// Writes entries at the start of a buffer.
 pub(crate) fn write_entries(map: &mut [FlatMoved], entries: &[FlatMoved])
     requires { length entries.now ≤ length map.old }
     ensures { map.new ≡ entries.now ++ drop (length entries.now) map.old }
@@ -92,7 +92,7 @@ pub(crate) fn write_entries(map: &mut [FlatMoved], entries: &[FlatMoved])
     map[..entries.len()].copy_from_slice(entries);
 }
 
-/// Writes the moved bytes and the map, where both rooms hold them.
+/// Writes the moved bytes and the map, if both buffers hold them.
 #[tactic(auto, unfolding(crate::specs::Moving::moved_within))]
 fn put_moved(answer: &Result<MovedCode, MoveRefusal>, out: &mut [u8], map: &mut [FlatMoved]) -> i32
     ensures said { result ≡ spec.moved_said (spec.moved_within (length out.old) (length map.old) answer.now) }

@@ -5,9 +5,9 @@ ghost use Rattle.c_calls.specs.Answers as said;
 ghost use Rattle.c_calls.specs.Names as spec;
 ghost use Rattle.c_calls.specs.Numbers.{prefix_numbered, style_numbered};
 
+use crate::buffers::put_text;
 use crate::numbers::{prefix_numbered, register_numbered, style_numbered};
 use crate::refusal::{Refusal, refusal_status};
-use crate::room::put_text;
 use text_parts::registers;
 use text_parts::text::Text;
 use x86_values::Register;

@@ -240,7 +240,7 @@ pub(crate) fn register_numbered(class: u8, n: u8) -> Option<Register>
     }
 }
 
-/// The register of a class and a number, none where both are 0.
+/// The register of a class and a number, none if both are 0.
 #[tactic(auto, unfolding(crate::specs::Numbers::base_numbered))]
 pub(crate) fn base_numbered(class: u8, n: u8) -> Option<Option<Register>>
     ensures { result ≡ spec.base_numbered class n }

@@ -1,4 +1,4 @@
-//! Where the parts of an instruction stand in its bytes.
+//! Where the parts of an instruction are in its bytes.
 
 ghost use Rattle.std.specs.Prelude.{◌≡◌};
 ghost use Rattle.c_calls.specs.Numbers.{bits_numbered};

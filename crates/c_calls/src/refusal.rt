@@ -18,7 +18,7 @@ pub(crate) enum Refusal {
     Instr,
     /// The operands of the instruction do not have the form of its row.
     Form,
-    /// The room is too small.
+    /// The buffer is too small.
     Room,
     /// The bytes begin with no instruction.
     Invalid,
@@ -42,17 +42,17 @@ pub(crate) enum Refusal {
     Register,
     /// A jump has no such form.
     Jump,
-    /// Nothing stands for what becomes of a function's own start.
+    /// The number of what becomes of a function\'s own start is neither of the two.
     Start,
     /// The code is too small for the jump.
     Small,
-    /// Other code stands behind the end of the code.
+    /// Other code follows the end of the code.
     Ends,
     /// What would be written over is entered.
     Entered,
     /// A block is not inside the bytes.
     Block,
-    /// The numbers of a region are none, or its live blocks do not stand by address inside it.
+    /// The numbers of a region are none, or its live blocks are not inside it, by address and in units of 16 bytes.
     Region,
     /// A place for no bytes.
     Empty,
@@ -118,7 +118,7 @@ fn refusal_number(why: Refusal) -> u16
     }
 }
 
-/// A refusal as it is told: its number, below zero.
+/// A refusal as it is returned: its number, below zero.
 pub(crate) fn refusal_status(why: Refusal) -> i32
     ensures { result ≡ spec.refusal_status why }
 {

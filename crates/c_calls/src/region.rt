@@ -9,7 +9,7 @@ use crate::refusal::{Refusal, refusal_status};
 use crate::region_search::{index_of, is_region, new_place};
 use code_region::{round_up, write_bytes};
 
-/// The address behind a region.
+/// The address after a region.
 fn end_of(region: &FlatRegion) -> u128
     ensures { result ≡ region.now.base + region.now.size }
 {

@@ -10,14 +10,14 @@ use code_region::open_refusal;
 /// The unit in which places are handed out, in bytes.
 const UNIT: u64 = 16;
 
-/// Where a new block goes: its address, and the number of the live block before which it stands.
+/// Where a new block goes: its address, and the number of the live block that it precedes.
 #[derive(Clone, Copy)]
 pub(crate) struct NewPlace {
     pub(crate) index: usize,
     pub(crate) place: u64,
 }
 
-/// Whether blocks stand by address from one address on, none over another, and end at another or before.
+/// Whether blocks are in order of address from one address on, without an overlap, and end at another or before.
 fn are_laid(base: u64, limit: u128, live: &[FlatLive]) -> bool
     ensures { result ≡ spec.are_laid base limit live.now }
 {
@@ -32,7 +32,7 @@ fn are_laid(base: u64, limit: u128, live: &[FlatLive]) -> bool
     from <= limit
 }
 
-/// Whether blocks stand a multiple of 16 bytes behind an address each, and take a multiple of 16 bytes.
+/// Whether each block starts a multiple of 16 bytes after an address, and has a multiple of 16 bytes.
 fn are_in_units(base: u64, live: &[FlatLive]) -> bool
     ensures { result ≡ spec.are_in_units base live.now }
 {

@@ -6,16 +6,16 @@ ghost use Rattle.c_calls.specs.Answers as said;
 ghost use Rattle.c_calls.specs.Info.{access_number};
 ghost use Rattle.c_calls.specs.RowOperands as spec;
 
+use crate::buffers::put_text;
 use crate::info::access_number;
 use crate::refusal::{Refusal, refusal_status};
-use crate::room::put_text;
 use crate::rows::code_numbered;
 use instruction_parts::row_types::OpKind;
 use opcode_rows::{ROWS, row_of};
 use operand_info::{Access, access_of};
 use x86_values::Code;
 
-/// The word of a kind, empty where there is no operand.
+/// The word of a kind, empty if there is no operand.
 fn kind_word(kind: OpKind) -> &'static [u8]
     ensures word { result.now ≡ spec.kind_word kind }
     ensures short { length result.now ≤ 5 }

@@ -3,14 +3,14 @@
 ghost use Rattle.std.specs.Prelude.{◌≡◌, ◌<◌, length, IfSome, IsNone, ◌↔◌, ◌≤◌};
 ghost use Rattle.c_calls.specs.Answers as spec;
 
+use crate::buffers::put_text;
 use crate::refusal::{Refusal, refusal_status};
-use crate::room::put_text;
 use opcode_rows::ROWS;
 use std::str::from_utf8;
 use text_rows::row_lines::notation_of;
 use x86_values::Code;
 
-/// The code of a number, where it is one of the table.
+/// The code of a number, if it is one of the table.
 pub(crate) fn code_numbered(n: u32) -> Option<Code>
     ensures row { IfSome result (λ code. (code.0 ≡ n) × (n < ROWS)) }
     ensures none { IsNone result → ROWS ≤ n }

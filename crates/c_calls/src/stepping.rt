@@ -6,10 +6,10 @@ ghost use Rattle.c_calls.specs.Answers as answers;
 ghost use Rattle.c_calls.specs.Numbers.{bits_numbered};
 ghost use Rattle.c_calls.specs.Steps as spec;
 
+use crate::buffers::{count_answer, put_bytes};
 use crate::flat::FlatStep;
 use crate::numbers::bits_numbered;
 use crate::refusal::{Refusal, refusal_status};
-use crate::room::{count_answer, put_bytes};
 use block_encoder::{Moved, Placed};
 use decoder::{DecodeError, decode_in};
 use std::alloc::Global;
@@ -120,7 +120,7 @@ const NOTHING: FlatStep = FlatStep {
     len: 0,
 };
 
-/// The offset of the jump back, in the code that stands at a place.
+/// The offset of the jump back, in the code at a place.
 fn back_offset(moved: &Moved, place: u64) -> u64
     requires { length moved.now.starts ≡ 2 }
     ensures { result ≡ spec.back_offset moved.now place }
@@ -161,7 +161,7 @@ fn report_of(answer: &Result<StepCode, StepRefusal>, place: u64) -> FlatStep
     }
 }
 
-/// Writes the code where the room holds it, and says how many bytes it has.
+/// Writes the code if the buffer holds it, and returns how many bytes it has.
 #[tactic(auto, unfolding(crate::specs::Answers::bytes_within))]
 fn put_step(answer: &Result<StepCode, StepRefusal>, out: &mut [u8]) -> i32
     requires { IfOk answer.now (λ code. spec.IsShortStep code) }
@@ -201,7 +201,7 @@ fn step_len_in(bits: Bits, ip: u64, bytes: &[u8], base: u64) -> i32
     }
 }
 
-/// How many bytes [`step`] writes at most for an instruction, at any place that is a multiple of 16 bytes behind a base.
+/// How many bytes [`step`] writes at most for an instruction, at any place that is a multiple of 16 bytes after a base.
 pub fn step_len(bits: u32, ip: u64, bytes: &[u8], base: u64) -> i32
     ensures { spec.IsStepLen (bits_numbered bits) ip bytes.now base result }
 {

@@ -4,10 +4,10 @@ ghost use Rattle.std.specs.Prelude.{◌≡◌, ◌≤◌, length, [], IsTrue, Ok
 ghost use Rattle.opcode_rows.specs.Allowed.{is_well_formed};
 ghost use Rattle.c_calls.specs.Answers as spec;
 
+use crate::buffers::put_text;
 use crate::flat::FlatInstr;
 use crate::numbers::{bits_numbered, style_numbered};
 use crate::refusal::{Refusal, refusal_status};
-use crate::room::put_text;
 use crate::unflatten::instr_back_into;
 use decoder::UNREAD;
 use opcode_rows::well_formed;
@@ -40,7 +40,7 @@ pub(crate) fn append_style_text(out: &mut Text, style: Style, bits: Bits, instr:
     }
 }
 
-/// Writes the text of a well-formed instruction in a style and a byte 0 behind it, where the room holds both, and says how many bytes the text has.
+/// Writes the text of a well-formed instruction in a style and a terminating 0, if the buffer holds both, and returns how many bytes the text has.
 #[inline(always)]
 fn put_style_text(style: Style, bits: Bits, instr: &Instr, out: &mut [u8]) -> i32
     requires { IsTrue (is_well_formed instr.now) }

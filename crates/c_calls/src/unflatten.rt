@@ -12,7 +12,7 @@ use crate::numbers::{
 use decoder::UNREAD;
 use x86_values::{Code, Instr, Mem, Operand};
 
-/// Writes the register operand of a struct to `out`. Where it is none, nothing is said of what stands there.
+/// Writes the register operand of a struct to `out`. If there is none, `out` may hold anything.
 #[inline(always)]
 fn register_back_into(f: &FlatOperand, out: &mut Operand) -> Option<()>
     ensures { spec.register_operand (numbers.register_numbered f.now.reg_class f.now.reg_number) ≡ spec.written_value result out.new }
@@ -21,7 +21,7 @@ fn register_back_into(f: &FlatOperand, out: &mut Operand) -> Option<()>
     Some(())
 }
 
-/// Writes the address of a struct to `out`. Where it is none, nothing is said of what stands there.
+/// Writes the address of a struct to `out`. If there is none, `out` may hold anything.
 #[inline(always)]
 fn memory_back_into(f: &FlatOperand, out: &mut Operand) -> Option<()>
     ensures { spec.memory_from_fields f.now.scale f.now.value (numbers.base_numbered f.now.reg_class f.now.reg_number)
@@ -40,8 +40,8 @@ fn memory_back_into(f: &FlatOperand, out: &mut Operand) -> Option<()>
     Some(())
 }
 
-/// Writes the operand of a struct to `out`, where its kind is one and the fields of this kind are in range; the others are not looked at. Where it is
-/// none, nothing is said of what stands there.
+/// Writes the operand of a struct to `out`, if its kind is one and the fields of this kind are in range; the others are ignored. If there is none, `out` may
+/// hold anything.
 // Each arm writes `out`: an operand that all arms hand on is put together from its parts again.
 #[inline(never)]
 #[tactic(auto, unfolding(crate::specs::Back::operand_back))]
@@ -88,8 +88,7 @@ fn operand_back_into(f: &FlatOperand, out: &mut Operand) -> Option<()>
     }
 }
 
-/// Writes the instruction of a struct to `out`, where each field is in range. Its length plays no part. Where it is none, nothing is said of what
-/// stands there.
+/// Writes the instruction of a struct to `out`, if each field is in range. Its length is ignored. If there is none, `out` may hold anything.
 // Built into its callers, as a call of its own takes as long as what it does for an operand.
 #[inline(always)]
 #[tactic(auto, unfolding(crate::specs::Back::instr_back, crate::specs::Back::operands_back))]
@@ -108,7 +107,7 @@ pub(crate) fn instr_back_into(f: &FlatInstr, out: &mut Instr) -> Option<()>
     Some(())
 }
 
-/// The instruction of a struct, where each field is in range.
+/// The instruction of a struct, if each field is in range.
 pub(crate) fn instr_back(f: &FlatInstr) -> Option<Instr>
     ensures { result ≡ spec.instr_back f.now }
 {

@@ -2,7 +2,7 @@
 
 ghost use Rattle.std.specs.Prelude.{◌≡◌};
 
-/// The version: major, minor and patch in a byte each, the last the lowest. The program tells the same by `--version`.
+/// The version: major, minor and patch in a byte each, the last the lowest. The program prints the same by `--version`.
 pub fn version() -> u32
     ensures { result ≡ 0x000200 }
 {

@@ -6,13 +6,13 @@ ghost use Rattle.c_calls.specs.FlowFrom.{IsFlowFrom};
 use c_calls::{flow, flow_from};
 use std::alloc::Global;
 
-/// Follows control from the first byte of some code, which has the address `base`, and says how many offsets it reaches: their list in ascending
-/// order goes to `starts`, and beside each the first offset of its basic block to `leaders`.
+/// Follows control from the first byte of some code, whose address is `base`, and returns how many offsets it reaches: `starts` receives their list in
+/// ascending order, and `leaders` for each the first offset of its basic block.
 ///
-/// From an instruction control goes to its end, unless it is a jump, a return or an undefined instruction, and to its near target, if it has one, as
-/// far as there are bytes. Addresses are taken modulo 2 to the number of bits of the mode. The refusals are `Mode`, `TooLarge` above 1,048,576 bytes,
-/// `Memory`, and `Room` where a room has fewer places than there are reached offsets, of which there are no more than bytes. Rooms are unchanged behind the lists and
-/// after a refusal. It takes memory of the C library, and gives it back.
+/// From an instruction control goes to its end, unless it is a jump, a return or an undefined instruction, and to its near target, if it has one, as far as
+/// there are bytes. Addresses are taken modulo 2 to the number of bits of the mode. Refusals: `Mode`, `TooLarge` above 1,048,576 bytes, `Memory`, and `Room` if
+/// a buffer has fewer elements than there are reached offsets, which are no more than the bytes. Buffers are unchanged after the lists and after a refusal. The
+/// call allocates from the C library, and frees what it took.
 #[unsafe(no_mangle)]
 pub extern "C" fn feddurzai_flow(
     alloc: Global,
@@ -27,14 +27,13 @@ pub extern "C" fn feddurzai_flow(
     flow::flow(alloc, bits, base, bytes, starts, leaders)
 }
 
-/// Follows control from several first offsets of some code, whose first byte has the address `base`, and says how many offsets it reaches: their
-/// list in ascending order goes to `starts`, beside each the first offset of its basic block to `leaders`, and to `kinds` the flow of its instruction,
-/// or 0xff where none is read and 0xfe where the bytes end before it does.
+/// Follows control from several first offsets of some code, whose first byte has the address `base`, and returns how many offsets it reaches. `starts` receives
+/// their list in ascending order, `leaders` for each the first offset of its basic block, and `kinds` the flow of its instruction, or 0xff if none is read and
+/// 0xfe if the bytes end before it does.
 ///
-/// Control goes as in `feddurzai_flow`. A first offset at which there is no byte adds nothing, nor does one that stands there again. Each other one
-/// begins a basic block. The refusals are `Mode`, `TooLarge` above 16,777,216 bytes, `Memory`, and `Room` where a room has fewer places than there are
-/// reached offsets, of which there are no more than bytes. Rooms are unchanged behind the lists and after a refusal. It takes memory of the C library, and
-/// gives it back.
+/// Control goes as in `feddurzai_flow`. A first offset at which there is no byte adds nothing, nor does one that is listed again. Each other one begins a basic
+/// block. Refusals: `Mode`, `TooLarge` above 16,777,216 bytes, `Memory`, and `Room` if a buffer has fewer elements than there are reached offsets, which are no
+/// more than the bytes. Buffers are unchanged after the lists and after a refusal. The call allocates from the C library, and frees what it took.
 #[unsafe(no_mangle)]
 pub extern "C" fn feddurzai_flow_from(
     alloc: Global,

@@ -6,21 +6,21 @@ use c_calls::flat::FlatDetour;
 use c_calls::hooks;
 use std::alloc::Global;
 
-/// Makes a detour of the function whose bytes from its first one on, at the address `ip`, are `code`, to the replacement at the address `to`: the bytes
-/// that are written over its first ones go to `patch`, and those of the trampoline that will stand at the address `place` to `trampoline`. It says 0.
+/// Makes a detour of the function whose bytes from its first one on, at the address `ip`, are `code`, to the replacement at the address `to`. `patch` receives
+/// the bytes to write over its first ones, and `trampoline` those of the trampoline for the address `place`. It returns 0.
 ///
-/// The jump of the patch is the first of these that reaches: the near jump of the mode; in 64-bit mode one to a relay behind the trampoline; 14 bytes
-/// with the address. What it takes of the function is moved to the trampoline, and a jump back stands behind that unless control ends there. With `start`
-/// 0 a moved branch to the function's own start goes to its moved first instruction, with 1 it stays and comes to the replacement. Nothing else is written.
+/// The jump of the patch is the first of these that reaches: the near jump of the mode; in 64-bit mode one to a relay at the end of the trampoline; 14 bytes
+/// with the address. The instructions that it overwrites are moved to the trampoline, followed by a jump back unless control ends there. With `start` 0 a moved
+/// branch to the function's own start goes to its moved first instruction, with 1 it goes to the replacement. Nothing else is written.
 ///
-/// `report` gets how many bytes are taken, which are those of the patch, how many the trampoline has, the form of the jump (1, 2, 3), and at which offsets
-/// of the trampoline the jump back, the slots and the relay begin, where one that there is not has that of the end; also where a room is too small. Or the
-/// numbers of the refusal. These are `Mode`, `Start` where `start` is neither, `TooLarge` above 1,048,576 bytes; `Invalid` or `TooShort` with the offset,
-/// in the part to be taken, at which no instruction is read; `Small` with the bytes of the code and of the jump; `Ends` with the offset of code that is no
-/// padding behind an instruction that never goes on; `Entered` with the offset from which control may go into what is taken, behind its first byte, and
-/// the offset where to; `Wraps` with the end of the trampoline modulo 2 to the 64; `TooFar` with the number of the instruction, from 0, and its target; and
-/// `Room`. The first that stands is told; `Memory` may stand in place of those behind `TooLarge`. Rooms are unchanged behind what is written and after a
-/// refusal. It takes memory of the C library, and gives it back.
+/// `report` receives the number of bytes that are overwritten, which is that of the patch, the number of bytes of the trampoline, the form of the jump (1, 2,
+/// 3), and the offsets in the trampoline of the jump back, the slots and the relay, each the end of the trampoline if there is none; also if a buffer is too
+/// small. Or it receives the numbers of the refusal. These are `Mode`, `Start` if `start` is neither, `TooLarge` above 1,048,576 bytes; `Invalid` or `TooShort`
+/// with the offset, in the part to be overwritten, at which no instruction is read; `Small` with the numbers of bytes of the code and of the jump; `Ends` with
+/// the offset of code that is no padding after an instruction that never continues; `Entered` with the offset from which control may enter what is overwritten,
+/// after its first byte, and the offset that it enters; `Wraps` with the end of the trampoline modulo 2 to the 64; `TooFar` with the number of the instruction,
+/// from 0, and its target; and `Room`. The first that applies is returned; `Memory` may replace any of those after `TooLarge`. Buffers are unchanged after what
+/// is written and after a refusal. The call allocates from the C library, and frees what it took.
 #[unsafe(no_mangle)]
 pub extern "C" fn feddurzai_detour(
     alloc: Global,

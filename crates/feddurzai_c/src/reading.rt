@@ -9,10 +9,10 @@ ghost use Rattle.c_calls.specs.Offsets.{AreOffsetsOf};
 use c_calls::flat::{FlatInstr, FlatOffsets};
 use c_calls::{decoding, line, many, offsets};
 
-/// Reads the instruction at the front of some bytes into a struct, and says its length, 1 to 15 bytes.
+/// Reads the instruction at the start of some bytes into a struct, and returns its length, 1 to 15.
 ///
-/// `ip` is the address of the first byte, taken modulo 2 to the number of bits of the mode. The struct is unchanged after a refusal: `Mode`,
-/// `Invalid` and `TooShort` (Intel SDM volume 2, 2.1 to 2.3).
+/// `ip` is the address of the first byte, modulo 2 to the number of bits of the mode. Refusals: `Mode`, `Invalid`, `TooShort`; the struct is then unchanged
+/// (Intel SDM volume 2, 2.1 to 2.3).
 #[unsafe(no_mangle)]
 pub extern "C" fn feddurzai_decode(bits: u32, ip: u64, bytes: &[u8], instr: &mut FlatInstr) -> i32
     ensures { IsDecoded (bits_numbered bits) ip bytes.now instr.old instr.new result }
@@ -20,12 +20,12 @@ pub extern "C" fn feddurzai_decode(bits: u32, ip: u64, bytes: &[u8], instr: &mut
     decoding::decode(bits, ip, bytes, instr)
 }
 
-/// Reads many instructions: the sweep of some bytes from their front on, as many items of it as the room takes, 67,108,864 at most. It says how many
-/// bytes these take, and `count` gets how many they are.
+/// Reads many instructions: the items of a sweep over some bytes, as many as the buffer has structs for, 67,108,864 at most. It returns how many bytes they
+/// take, and `count` receives how many items there are.
 ///
-/// An item is an instruction with its length, or where none stands a single byte: a struct of zeros with the length 1 and the code 0xffff for `Invalid`
-/// and 0xfffe for `TooShort`. `ip` is the address of the first byte; addresses are taken modulo 2 to the number of bits of the mode. The room is unchanged
-/// behind the items, and with `count` after a refusal, which is `Mode`.
+/// An item is an instruction with its length. If none starts there, the item is a single byte: a struct of zeros with the length 1 and the code 0xffff for
+/// `Invalid` or 0xfffe for `TooShort`. `ip` is the address of the first byte; addresses are taken modulo 2 to the number of bits of the mode. The buffer is
+/// unchanged after the items. The refusal is `Mode`; the buffer and `count` are then unchanged.
 #[unsafe(no_mangle)]
 pub extern "C" fn feddurzai_decode_many(
     bits: u32,
@@ -39,9 +39,9 @@ pub extern "C" fn feddurzai_decode_many(
     many::decode_many(bits, ip, bytes, instrs, count)
 }
 
-/// Tells where the parts of the instruction at the front of some bytes stand, and says its length, 1 to 15 bytes. An address plays no part in that.
+/// Finds the parts of the instruction at the start of some bytes, and returns its length, 1 to 15. They do not depend on its address.
 ///
-/// The struct is unchanged after a refusal: `Mode`, `Invalid` and `TooShort`, as of reading (Intel SDM volume 2, 2.1, figure 2-1).
+/// Refusals: `Mode`, `Invalid`, `TooShort`; the struct is then unchanged (Intel SDM volume 2, 2.1, figure 2-1).
 #[unsafe(no_mangle)]
 pub extern "C" fn feddurzai_offsets(bits: u32, bytes: &[u8], parts: &mut FlatOffsets) -> i32
     ensures { AreOffsetsOf (bits_numbered bits) bytes.now parts.old parts.new result }
@@ -49,10 +49,10 @@ pub extern "C" fn feddurzai_offsets(bits: u32, bytes: &[u8], parts: &mut FlatOff
     offsets::offsets(bits, bytes, parts)
 }
 
-/// Reads the instruction at the front of some bytes into a struct, writes its text and a byte 0 behind it, and says its length, 1 to 15 bytes.
+/// Reads the instruction at the start of some bytes into a struct, writes its text with a terminating 0, and returns its length, 1 to 15.
 ///
-/// It is what `feddurzai_decode` and `feddurzai_text` do, without the struct read back between them. Struct and room are unchanged after a refusal:
-/// `Mode`, `Syntax`, `Invalid` and `TooShort`, `Room`, the first that stands (Intel SDM volume 2, 2.1 to 2.3).
+/// It does what `feddurzai_decode` and `feddurzai_text` do in two calls. Refusals: `Mode`, `Syntax`, `Invalid` or `TooShort`, `Room`, the first that applies;
+/// struct and buffer are then unchanged (Intel SDM volume 2, 2.1 to 2.3).
 #[unsafe(no_mangle)]
 pub extern "C" fn feddurzai_line(
     bits: u32,
@@ -67,8 +67,8 @@ pub extern "C" fn feddurzai_line(
     line::line(bits, syntax, ip, bytes, instr, out)
 }
 
-/// Writes the text of the instruction at the front of some bytes and a byte 0 behind it, and says its length in bytes: `feddurzai_line` where no struct is
-/// wanted, with its refusals.
+/// Writes the text of the instruction at the start of some bytes with a terminating 0, and returns the length of the instruction: `feddurzai_line` without a
+/// struct, with its refusals.
 #[unsafe(no_mangle)]
 pub extern "C" fn feddurzai_line_text(
     bits: u32,

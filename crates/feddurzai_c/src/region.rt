@@ -5,12 +5,13 @@ ghost use Rattle.c_calls.specs.Regions.{IsFill, IsRelease, IsReserve};
 use c_calls::flat::{FlatLive, FlatRegion};
 use c_calls::region;
 
-/// Hands out a place for `len` bytes, rounded up to a multiple of 16: the front of the first gap, by address, that is so long. It says 0.
+/// Hands out a place for `len` bytes, rounded up to a multiple of 16: the start of the first gap, by address, that is long enough. It returns 0.
 ///
-/// The region is the caller's: its first address, its size, and how many blocks are live, which are the first ones of `blocks`, by address. `place` gets the
-/// address, and the new block its place among the others. Refused with nothing changed, in this order: `Region` where size, room and end are none of a
-/// region (a size of 16 to 1,048,576 in units of 16, room for 1 to 65,536 blocks, an end at 2 to the 64 or before), or the blocks do not stand by address
-/// inside it, none over another, each in units of 16 bytes behind the base; `Empty` for a length of 0; `Room` where all blocks of the array are live; `Full`.
+/// The caller keeps the region: its first address, its size, and the number of live blocks, which are the first elements of `blocks`, in ascending order of
+/// address. `place` receives the address, and the new block is inserted among the others. Refusals, in this order, each with nothing changed: `Region` if size,
+/// capacity and end are not those of a region (a size of 16 to 1,048,576, a multiple of 16; room for 1 to 65,536 blocks; an end at 2 to the 64 or before), or
+/// the live blocks are not inside it, in order, without an overlap, each a multiple of 16 bytes after the base and with a length that is a multiple of 16;
+/// `Empty` for a length of 0; `Room` if all elements of the array are live blocks; `Full`.
 #[unsafe(no_mangle)]
 pub extern "C" fn feddurzai_region_reserve(
     region: &mut FlatRegion,
@@ -23,9 +24,9 @@ pub extern "C" fn feddurzai_region_reserve(
     region::reserve(region, blocks, len, place)
 }
 
-/// Ends the live block that starts at `place`. It says 0.
+/// Ends the live block that starts at `place`. It returns 0.
 ///
-/// Refused with nothing changed, in this order: `Region` as of `feddurzai_region_reserve`; `NotLive` where no live block starts there.
+/// Refusals, in this order, each with nothing changed: `Region` as for `feddurzai_region_reserve`; `NotLive` if no live block starts there.
 #[unsafe(no_mangle)]
 pub extern "C" fn feddurzai_region_release(
     region: &mut FlatRegion,
@@ -37,11 +38,11 @@ pub extern "C" fn feddurzai_region_release(
     region::release(region, blocks, place)
 }
 
-/// Writes `bytes` at the front of the live block that starts at `place`, and INT3 over the rest of the block, in `image`: the bytes of the region from its
-/// base on, or a copy of them. It says 0. No bytes clear the block.
+/// Writes `bytes` at the start of the live block that starts at `place`, and INT3 over the rest of the block, in `image`: the bytes of the region from its
+/// base, or a copy of them. It returns 0. No bytes clear the block.
 ///
-/// Refused with nothing changed, in this order: `Region` as of `feddurzai_region_reserve`; `Room` where the image is shorter than the region; `NotLive` where no
-/// live block starts there; `Room` where the block has fewer bytes.
+/// Refusals, in this order, each with nothing changed: `Region` as for `feddurzai_region_reserve`; `Room` if the image is shorter than the region; `NotLive` if
+/// no live block starts there; `Room` if the block has fewer bytes.
 #[unsafe(no_mangle)]
 pub extern "C" fn feddurzai_region_fill(
     region: &FlatRegion,

@@ -8,9 +8,9 @@ ghost use Rattle.operand_info.specs.ByCode.{access_of};
 
 use c_calls::{row_operands, rows};
 
-/// Writes the name of a row, a mnemonic in lower case of 1 to 16 bytes, and a byte 0 behind it, and says how many bytes the name has.
+/// Writes the name of a row, a mnemonic in lower case of 1 to 16 bytes, with a terminating 0, and returns the length of the name.
 ///
-/// `Code` where there is no such row, `Room` where the room is too small.
+/// Refusals: `Code` if there is no such row, `Room`.
 #[unsafe(no_mangle)]
 pub extern "C" fn feddurzai_name(code: u32, out: &mut [u8]) -> i32
     ensures said { result ≡ count_or_refusal (text_within (length out.old) (name_answer code)) }
@@ -19,10 +19,10 @@ pub extern "C" fn feddurzai_name(code: u32, out: &mut [u8]) -> i32
     rows::name(code, out)
 }
 
-/// Writes the notation of a row as the manual has it, as `REX.W + 81 /0 id`, at most 64 bytes, and a byte 0 behind it, and says how many bytes the
-/// notation has (Intel SDM volume 2, 3.1.1).
+/// Writes the notation of a row as the manual has it, such as `REX.W + 81 /0 id`, with a terminating 0, and returns the length of the notation, at most 64
+/// (Intel SDM volume 2, 3.1.1).
 ///
-/// `Code` where there is no such row, `Room` where the room is too small.
+/// Refusals: `Code` if there is no such row, `Room`.
 #[unsafe(no_mangle)]
 pub extern "C" fn feddurzai_notation(code: u32, out: &mut [u8]) -> i32
     ensures said { result ≡ count_or_refusal (text_within (length out.old) (notation_answer code)) }
@@ -31,12 +31,12 @@ pub extern "C" fn feddurzai_notation(code: u32, out: &mut [u8]) -> i32
     rows::notation(code, out)
 }
 
-/// Writes the word of the kind of an operand of a row, ASCII, and a byte 0 behind it, and what is done to the operand, 0 to 3 as in `feddurzai_info`.
-/// It says how many bytes the word has, at most 5: 0 for an operand that the row does not have.
+/// Writes the word of the kind of a row's operand, ASCII, with a terminating 0, and its access, 0 to 3 as in `feddurzai_info`. It returns the length of the
+/// word, at most 5: 0 for an operand that the row does not have.
 ///
-/// The operands are numbered from 0 to 3. The words are the manual's, as `Eb` and `Gv`: how an operand is addressed and of what type it is; Z is a
-/// register by the opcode, and a fixed register has its name (Intel SDM volume 2, A.2). `Code`, `Name` for any other number of an operand, `Room`, the
-/// first that stands; then both are unchanged.
+/// The operands have the numbers 0 to 3. The words are the manual's, such as `Eb` and `Gv`: how an operand is addressed, and its type. Z is a register by the
+/// opcode, and a fixed register has its name (Intel SDM volume 2, A.2). Refusals: `Code`, `Name` for any other number, `Room`, the first that applies; word and
+/// access are then unchanged.
 #[unsafe(no_mangle)]
 pub extern "C" fn feddurzai_row_operand(
     code: u32,
@@ -51,9 +51,9 @@ pub extern "C" fn feddurzai_row_operand(
     row_operands::row_operand(code, index, access, kind)
 }
 
-/// The code of the `n`-th row of a name, from 0, in the order of the codes; the name is a mnemonic in lower case without a byte 0 at its end.
+/// Returns the code of the `n`-th row of a name, from 0, in the order of the codes. The name is a mnemonic in lower case without a terminating 0.
 ///
-/// `Name` exactly where the name has no more than `n` rows, or is no UTF-8.
+/// The refusal is `Name`, exactly if the name has no more than `n` rows or is not UTF-8.
 #[unsafe(no_mangle)]
 pub extern "C" fn feddurzai_code_of(name: &[u8], n: usize) -> i32
     ensures { IsCodeNamed name.now n result }

@@ -7,14 +7,14 @@ use c_calls::flat::FlatStep;
 use c_calls::stepping;
 use std::alloc::Global;
 
-/// Writes the code by which the instruction at the front of some bytes, whose address is `ip`, is stepped at another place: its image at `place`, which
-/// reaches what the instruction reached, also where that is the instruction itself, and a jump back to the address behind it. It says how many bytes
-/// there are: 1 to 53.
+/// Writes the code with which the instruction at the start of some bytes, whose address is `ip`, is stepped at another place: its image at `place`, which
+/// reaches what the instruction reached, even if that is the instruction itself, and a jump back to the address after it. It returns the number of bytes, 1 to
+/// 53.
 ///
-/// `report` gets that number, the offset of the jump back and how many bytes the instruction had, also where the room is too small; or the address of the
-/// refusal. The room is unchanged behind the bytes, and whole after a refusal: `Mode`; `Invalid` and `TooShort`; `Wraps` where the code would end behind the
-/// address space, with that end modulo 2 to the 64; `TooFar` where the instruction does not reach its target, with that; `Room`. `Memory` may stand in
-/// place of those behind `TooShort`. It takes memory of the C library, and gives it back.
+/// `report` receives that number, the offset of the jump back and the number of bytes of the instruction, also if the buffer is too small; or the address of
+/// the refusal. The buffer is unchanged after the bytes, and after a refusal: `Mode`; `Invalid` or `TooShort`; `Wraps` if the code would end past the address
+/// space, with that end modulo 2 to the 64; `TooFar` if the instruction cannot reach its target, with that; `Room`. `Memory` may replace any of those after
+/// `TooShort`. The call allocates from the C library, and frees what it took.
 #[unsafe(no_mangle)]
 pub extern "C" fn feddurzai_step(
     alloc: Global,
@@ -30,8 +30,8 @@ pub extern "C" fn feddurzai_step(
     stepping::step(alloc, bits, ip, bytes, place, out, report)
 }
 
-/// How many bytes `feddurzai_step` writes at most for the instruction at the front of some bytes, at any place that stands a multiple of 16 bytes behind
-/// `base`: 1 to 53. So many are reserved in a region with that base. Refused: `Mode`, `Invalid`, `TooShort`.
+/// Returns how many bytes `feddurzai_step` writes at most for the instruction at the start of some bytes, at any place that is a multiple of 16 bytes after
+/// `base`: 1 to 53. So many are reserved in a region with that base. Refusals: `Mode`, `Invalid`, `TooShort`.
 #[unsafe(no_mangle)]
 pub extern "C" fn feddurzai_step_len(bits: u32, ip: u64, bytes: &[u8], base: u64) -> i32
     ensures { IsStepLen (bits_numbered bits) ip bytes.now base result }

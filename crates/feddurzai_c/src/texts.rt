@@ -8,10 +8,10 @@ ghost use Rattle.c_calls.specs.Names.{register_answer, segment_answer};
 use c_calls::flat::FlatInstr;
 use c_calls::{effects, names, texts};
 
-/// Writes the text of an instruction in a style, ASCII, and a byte 0 behind it, and says how many bytes the text has: at most 160.
+/// Writes the text of an instruction in a style, ASCII, with a terminating 0, and returns the length of the text, at most 160.
 ///
-/// The style is 0 for Intel's, 1 for AT&T's, 2 for MASM's. The room is unchanged behind the byte 0, and whole after a refusal: `Mode`, `Syntax`,
-/// `Instr`, `Form`, `Room`, the first that stands.
+/// The style is 0 for Intel, 1 for AT&T, 2 for MASM. The buffer is unchanged after the terminating 0. Refusals: `Mode`, `Syntax`, `Instr`, `Form`, `Room`, the
+/// first that applies; the buffer is then unchanged.
 #[unsafe(no_mangle)]
 pub extern "C" fn feddurzai_text(bits: u32, syntax: u32, instr: &FlatInstr, out: &mut [u8]) -> i32
     ensures said { result ≡ count_or_refusal (text_within (length out.old) (text_answer bits syntax instr.now)) }
@@ -20,10 +20,10 @@ pub extern "C" fn feddurzai_text(bits: u32, syntax: u32, instr: &FlatInstr, out:
     texts::text(bits, syntax, instr, out)
 }
 
-/// Writes the text of a register in a style, ASCII, and a byte 0 behind it, and says how many bytes the text has: at most 6.
+/// Writes the name of a register in a style, ASCII, with a terminating 0, and returns the length of the name, at most 6.
 ///
-/// The register is that of a class and a number in it. `Syntax`, `Register` where no register has them, `Room`, the first that stands; then the room
-/// is unchanged (Intel SDM volume 1, 3.4).
+/// The register is given by its class and its number in the class. Refusals: `Syntax`, `Register` if there is none, `Room`, the first that applies; the buffer
+/// is then unchanged (Intel SDM volume 1, 3.4).
 #[unsafe(no_mangle)]
 pub extern "C" fn feddurzai_register_text(
     syntax: u32,
@@ -37,10 +37,9 @@ pub extern "C" fn feddurzai_register_text(
     names::register_text(syntax, reg_class, reg_number, out)
 }
 
-/// Writes the text of the segment register that a prefix names, 1 to 6 for ES, CS, SS, DS, FS and GS, and a byte 0 behind it, and says how many bytes
-/// the text has: 2 or 3.
+/// Writes the name of the segment register of a prefix, 1 to 6 for ES, CS, SS, DS, FS and GS, with a terminating 0, and returns the length of the name, 2 or 3.
 ///
-/// `Syntax`, `Register` for any other number, `Room`, the first that stands; then the room is unchanged (Intel SDM volume 2, 2.1.1).
+/// Refusals: `Syntax`, `Register` for any other number, `Room`, the first that applies; the buffer is then unchanged (Intel SDM volume 2, 2.1.1).
 #[unsafe(no_mangle)]
 pub extern "C" fn feddurzai_segment_text(syntax: u32, segment: u8, out: &mut [u8]) -> i32
     ensures said { result ≡ count_or_refusal (text_within (length out.old) (segment_answer syntax segment)) }
@@ -49,10 +48,10 @@ pub extern "C" fn feddurzai_segment_text(syntax: u32, segment: u8, out: &mut [u8
     names::segment_text(syntax, segment, out)
 }
 
-/// Writes the name of a CPUID feature, ASCII, and a byte 0 behind it, and says how many bytes the name has: at most 10. The feature is that of a bit of
-/// the sets of features, from 0 on (Intel SDM volume 2, CPUID).
+/// Writes the name of a CPUID feature, ASCII, with a terminating 0, and returns the length of the name, at most 10. The feature is given by its bit in the sets
+/// of features (Intel SDM volume 2, CPUID).
 ///
-/// `Name` where no feature has this bit, `Room`, the first that stands; then the room is unchanged.
+/// Refusals: `Name` if no feature has this bit, `Room`; the buffer is then unchanged.
 #[unsafe(no_mangle)]
 pub extern "C" fn feddurzai_feature_name(bit: u32, out: &mut [u8]) -> i32
     ensures said { result ≡ count_or_refusal (text_within (length out.old) (feature_answer bit)) }

@@ -10,12 +10,12 @@ ghost use Rattle.c_calls.specs.Numbers.{bits_numbered};
 use c_calls::flat::FlatInstr;
 use c_calls::{assembling, encoding, jump};
 
-/// Writes the plain (shortest) spelling of an instruction at an address, and says how many bytes it has: 1 to 15.
+/// Writes the plain (shortest) spelling of an instruction at an address, and returns its number of bytes, 1 to 15.
 ///
-/// `ip` is the address of the first byte, taken modulo 2 to the number of bits of the mode. The length in the struct plays no part. A displacement of the
-/// width 255 gets the shortest width that its address has. The room is unchanged behind the bytes, and whole after a refusal: `Mode`, `Instr`, `Spelling`,
-/// `Room`, the first that stands. A `Spelling` says the first of the ten conditions of a plain spelling that fails, and the operand that fails it (Intel SDM
-/// volume 2, 2.1 to 2.3).
+/// `ip` is the address of the first byte, modulo 2 to the number of bits of the mode. The length in the struct is ignored. A displacement of the width 255 gets
+/// the shortest width that its address has. The buffer is unchanged after the bytes. Refusals: `Mode`, `Instr`, `Spelling`, `Room`, the first that applies; the
+/// buffer is then unchanged. `Spelling` has the first of the ten conditions of a plain spelling that fails, and the operand that fails it (Intel SDM volume 2,
+/// 2.1 to 2.3).
 #[unsafe(no_mangle)]
 pub extern "C" fn feddurzai_encode(bits: u32, ip: u64, instr: &FlatInstr, out: &mut [u8]) -> i32
     ensures said { result ≡ count_or_refusal (bytes_within (length out.old) (encode_answer bits ip instr.now)) }
@@ -25,7 +25,8 @@ pub extern "C" fn feddurzai_encode(bits: u32, ip: u64, instr: &FlatInstr, out: &
     encoding::encode(bits, ip, instr, out)
 }
 
-/// How many bytes the plain (shortest) spelling of an instruction at an address has: 1 to 15. The refusals are those of `feddurzai_encode`, but for `Room`.
+/// Returns the number of bytes of the plain (shortest) spelling of an instruction at an address, 1 to 15. The refusals are those of `feddurzai_encode`, without
+/// `Room`.
 #[unsafe(no_mangle)]
 pub extern "C" fn feddurzai_encoded_len(bits: u32, ip: u64, instr: &FlatInstr) -> i32
     ensures { result ≡ count_or_refusal (encode_answer bits ip instr.now) }
@@ -33,12 +34,11 @@ pub extern "C" fn feddurzai_encoded_len(bits: u32, ip: u64, instr: &FlatInstr) -
     encoding::encoded_len(bits, ip, instr)
 }
 
-/// Writes the bytes that an Intel text stands for at an address, and says how many: 1 to 15.
+/// Writes the bytes that an Intel text stands for at an address, and returns their number, 1 to 15.
 ///
-/// `ip` is the address of the first byte, taken modulo 2 to the number of bits of the mode. The text is one that `feddurzai_text` writes in Intel's style,
-/// without a byte 0 at its end. Of all instructions with this text that have a plain spelling there, it is the one whose spelling is shortest; of these
-/// the one with the least code; of these the one with the least bytes. `Mode`, `Text` exactly where there is none, `Room`, the first that stands; then
-/// the room is unchanged.
+/// `ip` is the address of the first byte, modulo 2 to the number of bits of the mode. The text is one that `feddurzai_text` writes in Intel style, without a
+/// terminating 0. Among the instructions with this text that have a plain spelling there, it is the one with the shortest spelling, then the one with the least
+/// code, then the one with the least bytes. Refusals: `Mode`, `Text` exactly if there is none, `Room`, the first that applies; the buffer is then unchanged.
 #[unsafe(no_mangle)]
 pub extern "C" fn feddurzai_assemble(bits: u32, ip: u64, text: &[u8], out: &mut [u8]) -> i32
     ensures { IsAssembly bits ip text.now out.old out.new result }
@@ -46,9 +46,9 @@ pub extern "C" fn feddurzai_assemble(bits: u32, ip: u64, text: &[u8], out: &mut 
     assembling::assemble(bits, ip, text, out)
 }
 
-/// Reads an Intel text into a struct: the instruction whose bytes `feddurzai_assemble` writes. It says how many bytes these are, which is the struct's length.
+/// Reads an Intel text into a struct: the instruction whose bytes `feddurzai_assemble` writes. It returns their number, which is also the length in the struct.
 ///
-/// The refusals are `Mode` and `Text`; then the struct is unchanged.
+/// Refusals: `Mode`, `Text`; the struct is then unchanged.
 #[unsafe(no_mangle)]
 pub extern "C" fn feddurzai_read_intel(
     bits: u32,
@@ -61,11 +61,11 @@ pub extern "C" fn feddurzai_read_intel(
     assembling::read_intel(bits, ip, text, instr)
 }
 
-/// Writes a jump to a target or a call of it, in a form, for the address `at`, and says how many bytes it has: at most 16.
+/// Writes a jump to a target or a call of it, in a form, for the address `at`, and returns its number of bytes, at most 16.
 ///
-/// The form is 1 for a jump with an offset of 8 bits, 2 for one with 32 (16 in 16-bit code), 4 for such a call; in 64-bit mode 3 for a jump to any
-/// address, which stands behind it, and 5 for such a call, which comes back behind the address (Intel SDM volume 2, CALL and JMP). `Mode`, `Jump`,
-/// `Spelling` where the target is out of reach or the mode has no such form, and `Room` are the refusals, the first that stands; then the room is unchanged.
+/// Form 1 is a jump with an offset of 8 bits, 2 a jump with one of 32 bits (16 in 16-bit code), and 4 such a call. In 64-bit mode form 3 is a jump to any
+/// address, which follows it, and 5 such a call, which returns to the end of the address (Intel SDM volume 2, CALL and JMP). Refusals: `Mode`, `Jump`,
+/// `Spelling` if the target is out of reach or the mode has no such form, `Room`, the first that applies; the buffer is then unchanged.
 #[unsafe(no_mangle)]
 pub extern "C" fn feddurzai_jump(bits: u32, at: u64, target: u64, form: u32, out: &mut [u8]) -> i32
     ensures said { result ≡ count_or_refusal (bytes_within (length out.old) (jump_answer bits at target form)) }

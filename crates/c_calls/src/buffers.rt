@@ -1,11 +1,11 @@
-//! Writing into a room of the caller's.
+//! Writing into a caller-provided buffer.
 
 ghost use Rattle.std.specs.Prelude.{◌≡◌, ◌+◌, ◌<◌, ◌≤◌, ◌∷◌, ◌++◌, ◌^◌, length, drop, pos, Ok, Err};
 ghost use Rattle.c_calls.specs.Answers as spec;
 
 use crate::refusal::{Refusal, refusal_status};
 
-/// A number of bytes as it is told.
+/// A number of bytes as it is returned.
 pub(crate) fn count_answer(n: usize) -> i32
     requires { n < 2 ^ 31 }
     ensures { result ≡ pos n }
@@ -13,7 +13,7 @@ pub(crate) fn count_answer(n: usize) -> i32
     n as i32
 }
 
-/// Writes bytes at the front of a room.
+/// Writes bytes at the start of a buffer.
 pub(crate) fn write_front(out: &mut [u8], bytes: &[u8])
     requires { length bytes.now ≤ length out.old }
     ensures { out.new ≡ bytes.now ++ drop (length bytes.now) out.old }
@@ -21,7 +21,7 @@ pub(crate) fn write_front(out: &mut [u8], bytes: &[u8])
     out[..bytes.len()].copy_from_slice(bytes);
 }
 
-/// Writes bytes where the room holds them, and says how many there are.
+/// Writes bytes if the buffer holds them, and returns how many there are.
 #[tactic(auto, unfolding(crate::specs::Answers::bytes_within))]
 pub(crate) fn put_bytes(out: &mut [u8], bytes: &[u8]) -> i32
     requires { length bytes.now < 2 ^ 31 }
@@ -35,7 +35,7 @@ pub(crate) fn put_bytes(out: &mut [u8], bytes: &[u8]) -> i32
     count_answer(bytes.len())
 }
 
-/// Writes a text and the byte 0 that ends it at the front of a room that holds both.
+/// Writes a text and the byte 0 that ends it at the start of a buffer that holds both.
 pub(crate) fn write_text(out: &mut [u8], text: &[u8])
     requires { length text.now < length out.old }
     ensures { out.new ≡ spec.with_text out.old (Ok text.now) }
@@ -44,7 +44,7 @@ pub(crate) fn write_text(out: &mut [u8], text: &[u8])
     out[text.len()] = 0;
 }
 
-/// Writes a text and the byte 0 that ends it, where the room holds both, and says how many bytes the text has.
+/// Writes a text and the byte 0 that ends it, if the buffer holds both, and returns how many bytes the text has.
 #[tactic(auto, unfolding(crate::specs::Answers::text_within))]
 pub(crate) fn put_text(out: &mut [u8], text: &[u8]) -> i32
     requires { length text.now < 2 ^ 31 }
