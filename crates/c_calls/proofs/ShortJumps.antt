@@ -7,7 +7,6 @@ use Rattle.x86_values.specs.declared.Instr.{Instr}
 use Rattle.instruction_parts.specs.Sizes.{exists_in}
 use Rattle.plain_spelling.specs.declared.NoSpelling.{NoSpelling}
 use Rattle.plain_spelling.specs.Values.{low_bytes}
-use Rattle.plain_form.proofs.WrittenValues.{low_bytes-length}
 use Rattle.opcode_rows.specs.Table.{table}
 use Rattle.encoder.specs.Encoding.{encoding}
 use Rattle.encoder.specs.Facts.{SpelledFacts}
@@ -32,6 +31,11 @@ pub record JumpFacts : Type 0 where
   pub codes : CodeFacts
   pub pieces : PieceFacts
   pub spelled : SpelledFacts
+
+-- an address has eight bytes
+pub address-length : (x : ℕ) → length (low_bytes 8 x) ≡ 8
+unfolding low_bytes
+address-length x = refl
 
 -- an encoding that is short, with bytes behind it
 behind-short : (more : List ℕ) (i : Instr) (e : Result (List ℕ) NoSpelling) → ((bytes : List ℕ) → e ≡ Ok bytes → length bytes + length more ≤ 16)
@@ -65,14 +69,14 @@ module _ (facts : JumpFacts) where
 
   -- a branch through memory is of 64-bit mode
   far_jump-bytes : (bits : Bits) (at slot : ℕ) (bytes : List ℕ) → encoding bits at (through_slot (far_code ToJump) slot) ≡ Ok bytes → length bytes ≤ 6
-  unfolding exists_in
+  unfolding exists_in through_slot far_code
   far_jump-bytes B16 at slot bytes h = let none = without_mode B16 at (memory_row 4) (through_slot (far_code ToJump) slot) facts.codes.far-jump refl in absurd cc
   far_jump-bytes B32 at slot bytes h = let none = without_mode B32 at (memory_row 4) (through_slot (far_code ToJump) slot) facts.codes.far-jump refl in absurd cc
   far_jump-bytes B64 at slot bytes h =
       omega (arith, encoding-length facts.spelled B64 at (through_slot (far_code ToJump) slot) bytes h, facts.pieces.slot_jump-length B64 slot)
 
   far_call-bytes : (bits : Bits) (at slot : ℕ) (bytes : List ℕ) → encoding bits at (through_slot (far_code ToCall) slot) ≡ Ok bytes → length bytes ≤ 6
-  unfolding exists_in
+  unfolding exists_in through_slot far_code
   far_call-bytes B16 at slot bytes h = let none = without_mode B16 at (memory_row 2) (through_slot (far_code ToCall) slot) facts.codes.far-call refl in absurd cc
   far_call-bytes B32 at slot bytes h = let none = without_mode B32 at (memory_row 2) (through_slot (far_code ToCall) slot) facts.codes.far-call refl in absurd cc
   far_call-bytes B64 at slot bytes h =
@@ -80,13 +84,13 @@ module _ (facts : JumpFacts) where
 
   form-short : (bits : Bits) (at target : ℕ) (form : JumpForm) → HasAtMost 16 (jump_bytes bits at target form)
   unfolding jump_instr behind_jump
-  form-short bits at target ShortJump = behind-short [] _ _ (λ bytes e. omega (arith, short-bytes bits at target bytes e))
-  form-short bits at target NearJump = behind-short [] _ _ (λ bytes e. omega (arith, near_jump-bytes bits at target bytes e))
+  form-short bits at target ShortJump = behind-short [] (jump_instr bits at target ShortJump) (encoding bits at (jump_instr bits at target ShortJump)) (λ bytes e. omega (arith, short-bytes bits at target bytes e))
+  form-short bits at target NearJump = behind-short [] (jump_instr bits at target NearJump) (encoding bits at (jump_instr bits at target NearJump)) (λ bytes e. omega (arith, near_jump-bytes bits at target bytes e))
   form-short bits at target FarJump =
-      behind-short (low_bytes 8 target) _ _ (λ bytes e. omega (arith, far_jump-bytes bits at _ bytes e, low_bytes-length 8 target))
-  form-short bits at target NearCall = behind-short [] _ _ (λ bytes e. omega (arith, near_call-bytes bits at target bytes e))
+      behind-short (low_bytes 8 target) (jump_instr bits at target FarJump) (encoding bits at (jump_instr bits at target FarJump)) (λ bytes e. omega (arith, far_jump-bytes bits at _ bytes e, address-length target))
+  form-short bits at target NearCall = behind-short [] (jump_instr bits at target NearCall) (encoding bits at (jump_instr bits at target NearCall)) (λ bytes e. omega (arith, near_call-bytes bits at target bytes e))
   form-short bits at target FarCall =
-      behind-short (0xEB ∷ 0x08 ∷ low_bytes 8 target) _ _ (λ bytes e. omega (arith, far_call-bytes bits at _ bytes e, low_bytes-length 8 target))
+      behind-short (0xEB ∷ 0x08 ∷ low_bytes 8 target) (jump_instr bits at target FarCall) (encoding bits at (jump_instr bits at target FarCall)) (λ bytes e. omega (arith, far_call-bytes bits at _ bytes e, address-length target))
 
   of-short : (bits : Option Bits) (form : Option JumpForm) (at target : ℕ) → HasAtMost 16 (jump_of bits form at target)
   of-short None form at target = tt

@@ -5,7 +5,6 @@ use Rattle.std.proofs.lemmas.List.{length-replicate}
 use Rattle.std.proofs.lemmas.List.Sums.{sum_by-cons}
 use Rattle.x86_values.specs.declared.Bits.{Bits}
 use Rattle.x86_values.specs.Wrapping.{modulo_width}
-use Rattle.plain_form.proofs.WrittenValues.{low_bytes-length}
 use Rattle.opcode_rows.specs.Sweep.{IsReadAt}
 use Rattle.move_goals.specs.declared.items.Placed.{Placed}
 use Rattle.detour.specs.declared.parts.JumpForm.{JumpForm}
@@ -15,7 +14,7 @@ use Rattle.detour.specs.Detours.{IsJumpOf, IsDetour, DetourState, patch_of}
 use Rattle.detour.specs.Jumps.{IsNearJump, near_jump_to, absolute_jump}
 use Rattle.detour.specs.Taken.{taken_bytes, offset_at, reading_of_item, AreReadFrom}
 use Rattle.c_calls.specs.Hooks.{IsDetourAnswerBy}
-use Rattle.c_calls.proofs.ShortJumps.{JumpFacts, near_jump-bytes}
+use Rattle.c_calls.proofs.ShortJumps.{JumpFacts, address-length, near_jump-bytes}
 
 -- ---- the jump
 
@@ -25,7 +24,7 @@ near-short facts bits at target bytes h = omega (arith, near_jump-bytes facts bi
 
 absolute-short : (target : ℕ) → length (absolute_jump target) ≤ 14
 unfolding absolute_jump
-absolute-short target = omega (arith, low_bytes-length 8 target)
+absolute-short target = omega (arith, address-length target)
 
 jump-short : (facts : JumpFacts) (bits : Bits) (ip : ℕ) (code : List ℕ) (to place : ℕ) (start : StartTarget) (form : JumpForm) (bytes : List ℕ) (relay : Option ℕ)
     → IsJumpOf bits ip code to place start form bytes relay → length bytes ≤ 14

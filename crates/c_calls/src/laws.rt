@@ -6,6 +6,7 @@ ghost use Rattle.x86_values.specs.Wrapping.{modulo_width};
 ghost use Rattle.instruction_parts.specs.declared.row_types.Row.{Row};
 ghost use Rattle.plain_spelling.specs.declared.NoSpelling.{NoSpelling};
 ghost use Rattle.opcode_rows.specs.Table.{table};
+ghost use Rattle.opcode_rows.specs.Allowed.{is_well_formed};
 ghost use Rattle.encoder.specs.Encoding.{encoding};
 ghost use Rattle.branch_sizes.specs.declared.plan.BlockSpan.{BlockSpan};
 ghost use Rattle.branch_sizes.specs.Layout.{span_at};
@@ -30,7 +31,7 @@ ghost use Rattle.c_calls.specs.Blocks.{AreBlocksMoved, no_place};
 ghost use Rattle.c_calls.specs.Failing.{IsFailing};
 ghost use Rattle.c_calls.specs.Flat.{flat_instr};
 ghost use Rattle.c_calls.specs.Back.{instr_back};
-ghost use Rattle.c_calls.specs.Answers.{encode_answer, name_answer, notation_answer, text_answer};
+ghost use Rattle.c_calls.specs.Answers.{encode_answer, name_answer, notation_answer, style_text, text_answer};
 ghost use Rattle.c_calls.specs.Effects.{feature_answer};
 ghost use Rattle.c_calls.specs.Hooks.{IsDetourAnswerBy};
 ghost use Rattle.c_calls.specs.Jumps.{jump_answer};
@@ -48,8 +49,10 @@ use crate::texts::append_style_text;
 use crate::unflatten::instr_back;
 use encoder::encode;
 use opcode_rows::well_formed;
+use text_parts::style::Style;
 use text_parts::text::Text;
 use text_rows::row_lines::notation_of;
+use x86_values::{Bits, Instr};
 
 /// Every instruction comes back from its struct; so two with the same struct are the same.
 #[tactic(auto, using(crate::proofs::ThereAndBack::instr_back_flat))]
@@ -173,6 +176,16 @@ pub fn encodings_are_short(bits: u32, ip: u64, instr: &FlatInstr)
     let _ = encode(bits, ip, &read);
 }
 
+/// The text of a well-formed instruction has at most 160 bytes.
+fn style_texts_are_short(style: Style, bits: Bits, instr: &Instr)
+    requires { IsTrue (is_well_formed instr.now) }
+    ensures { length (style_text style bits instr.now) ≤ 160 }
+{
+    let mut text = Text::new();
+    append_style_text(&mut text, style, bits, instr);
+    let _ = text.len();
+}
+
 /// The text of the instruction of a struct has at most 160 bytes, so that a buffer of 161 holds it with the terminating 0.
 #[tactic(auto, unfolding(crate::specs::Answers::instr_text_of))]
 pub fn texts_are_short(bits: u32, syntax: u32, instr: &FlatInstr)
@@ -188,6 +201,6 @@ pub fn texts_are_short(bits: u32, syntax: u32, instr: &FlatInstr)
         return;
     };
     if well_formed(&read) {
-        append_style_text(&mut Text::new(), style, bits, &read);
+        style_texts_are_short(style, bits, &read);
     }
 }
