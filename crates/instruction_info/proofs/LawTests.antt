@@ -21,7 +21,7 @@ use Rattle.operand_info.specs.Operands.{uses}
 use Rattle.instruction_info.specs.declared.registers.RegisterUse.{RegisterUse}
 use Rattle.instruction_info.specs.Settings.{has_repeat, setting_of}
 use Rattle.instruction_info.specs.Memory.{all_memory}
-use Rattle.instruction_info.specs.Registers.{named_uses, segment_uses, implied_uses, counter_use, all_registers}
+use Rattle.instruction_info.specs.Registers.{replaces, named_uses, segment_uses, implied_uses, counter_use, all_registers}
 use Rattle.instruction_info.specs.Laws.{tested_flags, is_calling, is_returning, is_system_return, is_push, is_pop, is_string_row, counter, added_features}
 
 -- ---- each effect
@@ -263,7 +263,7 @@ pub counter-last : (bits : Bits) (i : Instr) (row : Row) → slice_get table i.c
     → (front : List RegisterUse) × (all_registers bits i ≡ front ++ counter bits i ∷ [])
 unfolding all_registers
 counter-last bits i row at string repeat =
-    let named = named_uses (uses i) in
+    let named = named_uses (replaces i) (uses i) in
     let segments = segment_uses bits (all_memory bits i) in
     let implied = implied_uses (setting_of bits i) (registers_of i.code.0) in
     let last : counter_use (setting_of bits i) ≡ counter bits i ∷ [] = ap (λ b. counter_if bits i b) (repeated-true bits i row at string repeat) in (
