@@ -14,6 +14,8 @@ if [ "${1:-}" = --help ]; then
     sed -n '2,/^set/s/^# \{0,1\}//p' "$0"
     exit 0
 fi
+# the same order of files everywhere
+export LC_ALL=C
 here=$(cd "$(dirname "$0")" && pwd)
 out=${1:-$here/out}
 backend=${2:-llvm}
@@ -41,9 +43,12 @@ work=$(mktemp -d)
 trap 'rm -rf "$work"' EXIT
 mkdir "$work/bare" "$work/whole"
 (cd "$work/bare" && ar x "$here/../crates/feddurzai_c/out/libfeddurzai_c.a" && ar x "$heap")
-for object in "$work"/bare/*; do
-    [ -s "$object" ] || { echo "build.sh: libfeddurzai_c.a and $heap have no objects: see $out/build.log" >&2; exit 1; }
-done
+# an object of the same name as another would have taken its place
+members=$(for archive in "$here/../crates/feddurzai_c/out/libfeddurzai_c.a" "$heap"; do ar t "$archive"; done | wc -l)
+if [ "$members" -lt 2 ] || [ "$(find "$work/bare" -type f | wc -l)" -ne "$members" ]; then
+    echo "build.sh: the $members objects of libfeddurzai_c.a and $heap do not have a name each" >&2
+    exit 1
+fi
 
 # links FOLDER OUT: the shared library of the objects of a folder. It shows the calls alone; its soname has the number of the
 # interface, so that no program loads another
