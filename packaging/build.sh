@@ -47,7 +47,7 @@ platform=manylinux_2_17_x86_64.manylinux2014_x86_64
 say() { printf '%s\n' "$*"; }
 die() { say "build.sh: $*" >&2; exit 1; }
 
-for tool in git rt "$cc" objcopy readelf strip python3 dpkg-deb dpkg-shlibdeps gzip tar sha256sum; do
+for tool in git rt "$cc" readelf strip python3 dpkg-deb dpkg-shlibdeps gzip tar sha256sum; do
     command -v "$tool" >/dev/null || die "there is no $tool here: --help names what this wants"
 done
 mkdir -p "$1"
@@ -103,12 +103,11 @@ done
 
 # the logic that each names, in its section .comment
 logic_of() {
-    objcopy -O binary --only-section=.comment "$1" "$work/comment" 2>/dev/null || die "$1 is no ELF file"
-    [ -s "$work/comment" ] || die "$1 names no logic: it is not built by the kit"
-    tr '\0' '\n' <"$work/comment" | sed -n 's/^rattle logic=\([0-9a-f]*\)$/\1/p' | sort -u
+    readelf -W -p .comment "$1" 2>/dev/null | sed -n 's/^ *\[ *[0-9a-f]*\] *rattle logic=\([0-9a-f]*\)$/\1/p' | sort -u
 }
 kit=$(rt version)
 logic=$(logic_of "$program")
+[ -n "$logic" ] || die "$program names no logic: it is not built by the kit"
 mkdir "$work/objects"
 (cd "$work/objects" && ar x "$libraries/libfeddurzai.a")
 in_archive=$(for object in "$work"/objects/*; do logic_of "$object"; done | sort -u)
