@@ -328,7 +328,7 @@ if command -v lintian >/dev/null; then
     as_root=
     [ "$(id -u)" -ne 0 ] || as_root=--allow-root
     # shellcheck disable=SC2086
-    lintian $as_root --fail-on error --no-tag-display-limit "$work"/*.deb || die "lintian has errors"
+    lintian $as_root --fail-on error --tag-display-limit 0 "$work"/*.deb || die "lintian has errors"
     say "lintian: no errors"
 else
     say "lintian: it is not here, and the packages are not checked by it"
