@@ -4,8 +4,8 @@
     unwind.py OBJECT OUT
 
 OBJECT is a relocatable ELF file for x86-64, and OUT the same with an .eh_frame; no byte of the code is changed. Where OBJECT has an
-.eh_frame, OUT is OBJECT. Where it has a .debug_frame, as from the kit's compiler `rattle`, its entries are taken. Otherwise, as from
-`llvm`, they are found from the code: each function is followed from its entry, and at each instruction it is known where the stack
+.eh_frame, OUT is OBJECT. Where it has a .debug_frame, as from the kit's compiler `rattle`, its entries are taken. Those of other
+functions, from `llvm` of all, are found from the code: each function is followed from its entry, and at each instruction it is known where the stack
 pointer stands below the caller's frame, and where the registers lie that a call keeps. The instructions are read by the library itself,
 which the environment's FEDDURZAI_LIBRARY names.
 
@@ -556,7 +556,8 @@ def take_debug_frame(frames, obj, section):
 def take_code(frames, obj, complain):
     """Finds the entries from the code; how many functions there are."""
     code = Code()
-    functions = [it for it in obj.functions() if obj.sections[it[1]].flags & SHF_EXECINSTR]
+    taken = {it[1:] for it in frames.places}
+    functions = [it for it in obj.functions() if obj.sections[it[1]].flags & SHF_EXECINSTR and it[1:3] not in taken]
     for symbol, section, start, size in functions:
         try:
             states = Function(code, obj, section, start, size).follow()
@@ -579,10 +580,9 @@ def main(file, out):
             frames, section = Frames(), obj.named(".debug_frame")
             if section is not None:
                 take_debug_frame(frames, obj, section)
-                said = f"{frames.count} functions by its .debug_frame"
-            else:
-                count = take_code(frames, obj, complain)
-                said = f"{frames.count} of {count} functions by their code"
+            told = frames.count
+            count = take_code(frames, obj, complain)
+            said = f"{told} functions by its .debug_frame, {frames.count - told} of {count} by their code"
             relocations = frames.relocations(obj)
             new = obj.append(".eh_frame", bytes(frames.data), type=SHT_PROGBITS, flags=SHF_ALLOC)
             rela = {"type": SHT_RELA, "flags": SHF_INFO_LINK, "link": obj.table, "info": new, "entry": _RELA.size}
