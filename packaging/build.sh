@@ -69,7 +69,7 @@ comes_from() {
     [ -d "$1" ] || die "there is no folder $1"
     of=${FEDDURZAI_COMMIT:-}
     if [ -z "$of" ]; then
-        of=$(git -C "$1" rev-parse --verify -q HEAD) || die "$1 is in no clone: name the commit that it was built from in FEDDURZAI_COMMIT"
+        of=$(git -C "$1" rev-parse --verify -q HEAD 2>/dev/null) || die "$1 is in no clone: name the commit that it was built from in FEDDURZAI_COMMIT"
         git -C "$1" diff --quiet HEAD -- ":(top)crates" ":(top)crates.txt" || die "the clone of $1 has changes in its crates that are not committed"
         theirs=$(git -C "$1" rev-parse "$of:crates")
     else
