@@ -19,8 +19,11 @@
 #include <unistd.h>
 #include <unwind.h>
 
-/* with_known(f) calls f with a known number in each register that a call keeps; known_back is the address behind it */
-void with_known(void (*f)(void));
+/*
+ * with_known(f, args) calls f with twelve arguments, a known number in each register that a call keeps, and the trap flag;
+ * known_back is the address behind the call. No frame of a compiler is between, which would keep these registers itself.
+ */
+int64_t with_known(void (*f)(void), const uint64_t *args);
 extern const char known_back[];
 __asm__(
     ".pushsection .text\n"
@@ -33,26 +36,44 @@ __asm__(
     "    push %r13\n    .cfi_adjust_cfa_offset 8\n    .cfi_rel_offset r13, 0\n"
     "    push %r14\n    .cfi_adjust_cfa_offset 8\n    .cfi_rel_offset r14, 0\n"
     "    push %r15\n    .cfi_adjust_cfa_offset 8\n    .cfi_rel_offset r15, 0\n"
-    "    sub $8, %rsp\n    .cfi_adjust_cfa_offset 8\n"
+    "    sub $56, %rsp\n    .cfi_adjust_cfa_offset 56\n"
+    "    mov %rdi, %r11\n"
+    "    mov %rsi, %r10\n"
+    "    mov 48(%r10), %rax\n    mov %rax, (%rsp)\n"
+    "    mov 56(%r10), %rax\n    mov %rax, 8(%rsp)\n"
+    "    mov 64(%r10), %rax\n    mov %rax, 16(%rsp)\n"
+    "    mov 72(%r10), %rax\n    mov %rax, 24(%rsp)\n"
+    "    mov 80(%r10), %rax\n    mov %rax, 32(%rsp)\n"
+    "    mov 88(%r10), %rax\n    mov %rax, 40(%rsp)\n"
+    "    mov (%r10), %rdi\n    mov 8(%r10), %rsi\n    mov 16(%r10), %rdx\n"
+    "    mov 24(%r10), %rcx\n    mov 32(%r10), %r8\n    mov 40(%r10), %r9\n"
     "    movabs $0x1003100310031003, %rbx\n"
     "    movabs $0x1006100610061006, %rbp\n"
     "    movabs $0x100c100c100c100c, %r12\n"
     "    movabs $0x100d100d100d100d, %r13\n"
     "    movabs $0x100e100e100e100e, %r14\n"
     "    movabs $0x100f100f100f100f, %r15\n"
-    "    call *%rdi\n"
+    "    pushf\n    .cfi_adjust_cfa_offset 8\n"
+    "    orl $0x100, (%rsp)\n"
+    "    popf\n    .cfi_adjust_cfa_offset -8\n"
+    "    call *%r11\n"
     "known_back:\n"
-    "    add $8, %rsp\n    .cfi_adjust_cfa_offset -8\n"
+    "    add $56, %rsp\n    .cfi_adjust_cfa_offset -56\n"
     "    pop %r15\n    .cfi_adjust_cfa_offset -8\n    .cfi_restore r15\n"
     "    pop %r14\n    .cfi_adjust_cfa_offset -8\n    .cfi_restore r14\n"
     "    pop %r13\n    .cfi_adjust_cfa_offset -8\n    .cfi_restore r13\n"
     "    pop %r12\n    .cfi_adjust_cfa_offset -8\n    .cfi_restore r12\n"
     "    pop %rbp\n    .cfi_adjust_cfa_offset -8\n    .cfi_restore rbp\n"
     "    pop %rbx\n    .cfi_adjust_cfa_offset -8\n    .cfi_restore rbx\n"
+    "    cltq\n"
     "    ret\n"
     "    .cfi_endproc\n"
     ".size with_known, . - with_known\n"
     ".popsection\n");
+
+/* a call of the library's function itself; P passes a pointer */
+#define CALL(f, ...) with_known((void (*)(void))f, (const uint64_t[12]){__VA_ARGS__})
+#define P(pointer) ((uint64_t)(uintptr_t)(pointer))
 
 /* the numbers of these registers in DWARF */
 static const int kept[] = {3, 6, 12, 13, 14, 15};
@@ -60,7 +81,6 @@ static const int kept[] = {3, 6, 12, 13, 14, 15};
 /* in data, since code may have the address of the program's way to the library in its place */
 static uint32_t (*volatile of_library)(void) = feddurzai_version;
 
-static volatile sig_atomic_t done;
 static uint64_t walked, in_library, first_byte, last_byte;
 static void *main_frame;
 
@@ -72,7 +92,7 @@ static _Unwind_Reason_Code step(struct _Unwind_Context *context, void *data)
 {
     struct walk *walk = data;
     size_t i;
-    if (_Unwind_GetIP(context) == (uintptr_t)known_back) {
+    if (_Unwind_GetIP(context) == P(known_back)) {
         walk->known = 1;
         for (i = 0; i < sizeof kept / sizeof *kept; i++)
             if (_Unwind_GetGR(context, kept[i]) != UINT64_C(0x1000100010001000) + kept[i] * UINT64_C(0x0001000100010001))
@@ -89,14 +109,14 @@ static void trapped(int signal, siginfo_t *info, void *data)
     uint64_t ip = (uint64_t)at->uc_mcontext.gregs[REG_RIP];
     struct walk walk = {0, 0, 0};
     (void)signal, (void)info;
-    if (done) {
+    if (ip == P(known_back)) {
         at->uc_mcontext.gregs[REG_EFL] &= ~0x100;
         return;
     }
     _Unwind_Backtrace(step, &walk);
     if (!walk.known || !walk.main || walk.wrong) {
         printf("unwind: at %#" PRIx64 ", %" PRId64 " behind feddurzai_version, a walk of the stack ", ip,
-            (int64_t)(ip - (uint64_t)(uintptr_t)of_library));
+            (int64_t)(ip - P(of_library)));
         if (!walk.known || !walk.main)
             printf("does not come to main\n");
         else
@@ -116,6 +136,7 @@ static const uint8_t code[] =
 
 enum { SIZE = sizeof code - 1 };
 
+/* calls of all kinds; what they answer is tested elsewhere */
 static void works(void)
 {
     static uint8_t out[512], image[4096], patch[64];
@@ -139,43 +160,40 @@ static void works(void)
     uint64_t place;
     uint8_t access;
     size_t at, count;
-    int32_t len;
+    int64_t len;
 
-    __asm__ volatile("sub $128, %%rsp\n\tpushf\n\torl $0x100, (%%rsp)\n\tpopf\n\tadd $128, %%rsp" ::: "memory", "cc");
-    (void)feddurzai_move(64, 0x401000, code, SIZE, 0x7fff00000000, out, sizeof out, map, 64, &moved);
-    (void)feddurzai_move(64, 0x401000, code, SIZE, 0x401100, out, sizeof out, map, 64, &moved);
-    (void)feddurzai_move_outside(64, 0x401000, code, SIZE, 0x501000, out, sizeof out, map, 64, &moved);
-    (void)feddurzai_move_blocks(64, code, SIZE, blocks, 2, out, sizeof out, places, 2, map, 64, &placed);
-    (void)feddurzai_flow(64, 0x401000, code, SIZE, starts, 128, leaders, 128);
-    (void)feddurzai_flow_from(64, 0x401000, code, SIZE, entries, 2, starts, 128, leaders, 128, kinds, 128);
-    (void)feddurzai_detour(64, 0x401000, code, SIZE, 0x7fff00000000, 0x500000, FEDDURZAI_START_MOVED, patch, sizeof patch, out,
-        sizeof out, &detour);
-    (void)feddurzai_region_reserve(&region, live, 4, FEDDURZAI_MAX_STEP, &place);
-    len = feddurzai_step(64, 0x401000, code + 19, 5, place, out, sizeof out, &stepped);
+    CALL(feddurzai_move, 64, 0x401000, P(code), SIZE, 0x7fff00000000, P(out), sizeof out, P(map), 64, P(&moved));
+    CALL(feddurzai_move, 64, 0x401000, P(code), SIZE, 0x401100, P(out), sizeof out, P(map), 64, P(&moved));
+    CALL(feddurzai_move_outside, 64, 0x401000, P(code), SIZE, 0x501000, P(out), sizeof out, P(map), 64, P(&moved));
+    CALL(feddurzai_move_blocks, 64, P(code), SIZE, P(blocks), 2, P(out), sizeof out, P(places), 2, P(map), 64, P(&placed));
+    CALL(feddurzai_flow, 64, 0x401000, P(code), SIZE, P(starts), 128, P(leaders), 128);
+    CALL(feddurzai_flow_from, 64, 0x401000, P(code), SIZE, P(entries), 2, P(starts), 128, P(leaders), 128, P(kinds), 128);
+    CALL(feddurzai_detour, 64, 0x401000, P(code), SIZE, 0x7fff00000000, 0x500000, FEDDURZAI_START_MOVED, P(patch), sizeof patch,
+        P(out), sizeof out, P(&detour));
+    CALL(feddurzai_region_reserve, P(&region), P(live), 4, FEDDURZAI_MAX_STEP, P(&place));
+    len = CALL(feddurzai_step, 64, 0x401000, P(code + 19), 5, place, P(out), sizeof out, P(&stepped));
     if (len > 0)
-        (void)feddurzai_region_fill(&region, live, 4, place, out, (size_t)len, image, sizeof image);
-    (void)feddurzai_region_release(&region, live, 4, place);
-    (void)feddurzai_decode_many(64, 0x401000, code, SIZE, instrs, 64, &count);
+        CALL(feddurzai_region_fill, P(&region), P(live), 4, place, P(out), (uint64_t)len, P(image), sizeof image);
+    CALL(feddurzai_region_release, P(&region), P(live), 4, place);
+    CALL(feddurzai_decode_many, 64, 0x401000, P(code), SIZE, P(instrs), 64, P(&count));
     for (at = 0; at < count; at++) {
-        (void)feddurzai_text(64, (uint32_t)(at % 3), &instrs[at], text, sizeof text);
-        (void)feddurzai_info(&instrs[at], &about);
-        (void)feddurzai_effects(64, &instrs[at], &touched);
-        (void)feddurzai_encode(64, 0x401000, &instrs[at], out, sizeof out);
-        (void)feddurzai_notation(instrs[at].code, text, sizeof text);
-        (void)feddurzai_row_operand(instrs[at].code, 0, &access, text, sizeof text);
+        CALL(feddurzai_text, 64, at % 3, P(&instrs[at]), P(text), sizeof text);
+        CALL(feddurzai_info, P(&instrs[at]), P(&about));
+        CALL(feddurzai_effects, 64, P(&instrs[at]), P(&touched));
+        CALL(feddurzai_encode, 64, 0x401000, P(&instrs[at]), P(out), sizeof out);
+        CALL(feddurzai_notation, instrs[at].code, P(text), sizeof text);
+        CALL(feddurzai_row_operand, instrs[at].code, 0, P(&access), P(text), sizeof text);
     }
-    (void)feddurzai_offsets(64, code + 10, SIZE - 10, &parts);
-    (void)feddurzai_assemble(64, 0x401000, "add rax, rcx", 12, out, sizeof out);
-    (void)feddurzai_jump(64, 0x401000, 0x7fff00000000, FEDDURZAI_JUMP_FAR, out, sizeof out);
-    (void)feddurzai_register_text(FEDDURZAI_ATT, FEDDURZAI_R64, 12, text, sizeof text);
-    done = 1;
-    __asm__ volatile("nop\n\tnop" ::: "memory");
+    CALL(feddurzai_offsets, 64, P(code + 10), SIZE - 10, P(&parts));
+    CALL(feddurzai_assemble, 64, 0x401000, P("add rax, rcx"), 12, P(out), sizeof out);
+    CALL(feddurzai_jump, 64, 0x401000, 0x7fff00000000, FEDDURZAI_JUMP_FAR, P(out), sizeof out);
+    CALL(feddurzai_register_text, FEDDURZAI_ATT, FEDDURZAI_R64, 12, P(text), sizeof text);
 }
 
 /* where the library's code is: the mapping that has its functions */
 static int finds_library(void)
 {
-    uint64_t of = (uint64_t)(uintptr_t)of_library;
+    uint64_t of = P(of_library);
     char row[512];
     FILE *maps = fopen("/proc/self/maps", "r");
     if (maps == NULL)
@@ -210,9 +228,9 @@ int main(void)
         printf("unwind: no handler for the trap flag\n");
         return 1;
     }
-    with_known(works);
+    works();
     if (in_library < 10000) {
-        printf("unwind: only %" PRIu64 " instructions of the library were stepped: the trap flag does not work here\n", in_library);
+        printf("unwind: only %" PRIu64 " instructions of the library were walked from: does the trap flag work here?\n", in_library);
         return 1;
     }
     printf("at each of %" PRIu64 " instructions, %" PRIu64 " of the library, the stack was walked to main\n", walked, in_library);
