@@ -103,7 +103,7 @@ done
 
 # the logic that each names, in its section .comment
 logic_of() {
-    readelf -W -p .comment "$1" 2>/dev/null | sed -n 's/^ *\[ *[0-9a-f]*\] *rattle logic=\([0-9a-f]*\)$/\1/p' | sort -u
+    readelf -W -p .comment "$1" 2>/dev/null | sed -n 's/^ *\[ *[0-9a-f]*\] *rattle logic=\([0-9a-f]*\).*/\1/p' | sort -u
 }
 kit=$(rt version)
 logic=$(logic_of "$program")
@@ -115,9 +115,18 @@ case $logic in
     "${kit##* logic }"*) ;;
     *) die "$program is proved in the logic '$logic', and this kit is $kit" ;;
 esac
+if [ -z "$in_archive" ] && [ -f "$libraries/build.log" ]; then
+    # no object names one: then it is that of the proof, by which capi/build.sh made them
+    short=$(sed -n 's/^logic=proved .* sum=\([0-9a-f]*\) .*/\1/p' "$libraries/build.log" | tail -1)
+    case $logic in
+        "${short:-none}"*) in_archive=$logic ;;
+    esac
+fi
 [ "$in_archive" = "$logic" ] || die "libfeddurzai.a is proved in the logic '$in_archive', and the program in '$logic'"
-[ "$(logic_of "$libraries/libfeddurzai.so")" = "$logic" ] || die "libfeddurzai.so is not of the same logic as the program, '$logic'"
-calls=$(nm -D --defined-only "$libraries/libfeddurzai.so" | grep -c ' feddurzai_')
+in_shared=$(logic_of "$libraries/libfeddurzai.so")
+[ "${in_shared:-$logic}" = "$logic" ] || die "libfeddurzai.so is proved in the logic '$in_shared', and the program in '$logic'"
+calls=$(nm -D --defined-only "$libraries/libfeddurzai.so" | grep -c ' feddurzai_' || true)
+[ "$calls" -gt 0 ] || die "libfeddurzai.so has none of the calls: make it by this clone's capi/build.sh"
 frames=$(readelf --debug-dump=frames "$libraries/libfeddurzai.so" | grep -c ' FDE ' || true)
 [ "$frames" -ge "$calls" ] || die "libfeddurzai.so has unwind information for $frames functions, and $calls calls: make it by this clone's capi/build.sh"
 
@@ -128,7 +137,7 @@ root=$work/root
 DESTDIR=$root LIBDIR=lib/$multiarch "$top/capi/install.sh" /usr "$libraries" >"$work/install.log"
 version=$(sed -n 's/.*: feddurzai \([0-9.]*\), interface [0-9]*$/\1/p' "$work/install.log")
 interface=$(sed -n 's/.*, interface \([0-9]*\)$/\1/p' "$work/install.log")
-[ "$("$program" --version | head -1)" = "feddurzai $version" ] || die "the program is of another version than the library, $version"
+[ "$("$program" --version | sed -n 1p)" = "feddurzai $version" ] || die "the program is of another version than the library, $version"
 library=libfeddurzai$interface
 
 {
