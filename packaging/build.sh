@@ -122,7 +122,7 @@ if [ -z "$in_archive" ] && [ -f "$libraries/build.log" ]; then
         "${short:-none}"*) in_archive=$logic ;;
     esac
 fi
-[ "$in_archive" = "$logic" ] || die "libfeddurzai.a is proved in the logic '$in_archive', and the program in '$logic'"
+[ "$in_archive" = "$logic" ] || die "libfeddurzai.a is proved in the logic '${in_archive:-none}', and the program in '$logic'"
 in_shared=$(logic_of "$libraries/libfeddurzai.so")
 [ "${in_shared:-$logic}" = "$logic" ] || die "libfeddurzai.so is proved in the logic '$in_shared', and the program in '$logic'"
 calls=$(nm -D --defined-only "$libraries/libfeddurzai.so" | grep -c ' feddurzai_' || true)
