@@ -38,6 +38,10 @@ if command -v g++ >/dev/null; then
     g++ -x c++ -std=c++11 $warn -I"$here" -c "$work/header.c" -o "$work/header.o"
     say "header: C++11, no warning"
 fi
+sed -n 's/^ \*     //p' "$here/feddurzai.h" | sed 's/^ *//' | while IFS= read -r line; do
+    grep -qF -- "$line" "$here/tests/header_examples.c" || die "feddurzai.h has an example that tests/header_examples.c lacks: $line"
+done
+say "header: each line of its examples is in tests/header_examples.c"
 
 # ---- code to list
 file=${1:-}
@@ -140,7 +144,7 @@ tries_gdb() {
     # errors in words
     in_gdb '^nowhere: No symbol "nowhere" in current context' 'feddurzai-list nowhere 20'
     in_gdb '^usage: feddurzai-list' 'feddurzai-list main 20 30'
-    in_gdb '^/x is no count of instructions' 'feddurzai-list /x main'
+    in_gdb '^/x is not a count of instructions' 'feddurzai-list /x main'
     in_gdb '^1048577 bytes are more than 1048576' 'feddurzai-list main 1048577'
     wrong_bits='python
 try:
@@ -222,6 +226,10 @@ for backend in llvm rattle; do
         || die_with "$work/cc.log" "calls.c is not built"
     "$out/calls" >"$work/calls.log" || die_with "$work/calls.log" "$backend: a call answered otherwise"
     say "$backend: $(cat "$work/calls.log") ($sanitizers)"
+
+    gcc -std=c99 $sanitized $warn -I"$here" "$here/tests/header_examples.c" "$out/libfeddurzai.a" -o "$out/header_examples"
+    "$out/header_examples" >"$work/examples.log" || die_with "$work/examples.log" "$backend: an example of feddurzai.h differs"
+    say "$backend: $(tail -1 "$work/examples.log")"
 
     # the functions of the header that look for NULL are compiled with the caller: as C and as C++
     tries_nulls gcc -std=c99
