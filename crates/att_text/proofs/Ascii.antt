@@ -143,6 +143,7 @@ text_of-ascii bits row name instr h p =
     (ascii-append (att_part bits row name instr 1) (att_part bits row name instr 0) (att_part-ascii bits row name instr 1 p.second)
     (att_part-ascii bits row name instr 0 p.first)))))
 
+-- the AT&T text of a well-formed instruction is ASCII
 pub text-ascii : (bits : Bits) (i : Instr) → IsTrue (is_well_formed i) → IsAscii (text bits i)
 unfolding text
 text-ascii bits i h =

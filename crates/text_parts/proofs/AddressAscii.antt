@@ -35,11 +35,13 @@ unless_none D16 text h = h
 unless_none D32 text h = h
 unless_none D64 text h = h
 
+-- a displacement behind registers is ASCII
 pub signed_displacement-ascii : (style : Style) (asize : Bits) (m : Mem) → all_ascii (signed_displacement style asize m) ≡ true
 unfolding signed_displacement
 signed_displacement-ascii style asize m =
     unless_none m.disp_size _ (ascii-append (sign style _) (number style _) (sign-ascii style _) (number-ascii style _))
 
+-- so is a displacement alone
 pub lone_displacement-ascii : (style : Style) (m : Mem) → all_ascii (lone_displacement style m) ≡ true
 unfolding lone_displacement
 lone_displacement-ascii style m = unless_none m.disp_size _ (number-ascii style _)
@@ -56,6 +58,7 @@ relative_word-ascii Intel base = rel_word-ascii base
 relative_word-ascii Masm base = refl
 relative_word-ascii Att base = refl
 
+-- so is a base register
 pub base_text-ascii : (style : Style) (base : Option Register) → is_named_if base ≡ true → all_ascii (base_text style base) ≡ true
 unfolding all_ascii base_text is_named_if
 base_text-ascii style None h = refl
@@ -66,6 +69,7 @@ unfolding all_ascii joint
 joint-ascii None = refl
 joint-ascii (Some r) = refl
 
+-- so is a scale
 pub scale_text-ascii : (mark : List ℕ) (asize : Bits) (scale : ℕ) → scale < 80 → all_ascii mark ≡ true → all_ascii (scale_text mark asize scale) ≡ true
 unfolding all_ascii scale_text
 scale_text-ascii mark B16 scale lt h = refl
@@ -113,6 +117,7 @@ bracket_segment-ascii Masm (Some s) m = segment_override-ascii Masm (Some s)
 bracket_segment-ascii Intel seg m = segment_override-ascii Intel seg
 bracket_segment-ascii Att seg m = segment_override-ascii Att seg
 
+-- so is an address in brackets
 pub bracketed-ascii : (style : Style) (seg : Option Segment) (asize : Bits) (m : Mem) → IsPrintable m
     → all_ascii (bracketed_address style seg asize m) ≡ true
 unfolding all_ascii bracketed_address

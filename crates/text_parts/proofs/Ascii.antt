@@ -68,6 +68,7 @@ leading_zero-ascii : (n : ℕ) → all_ascii (leading_zero n) ≡ true
 unfolding all_ascii leading_zero
 leading_zero-ascii n = ascii-if (nat_lt _ 10) [] (codes "0") refl refl
 
+-- a number is ASCII
 pub number-ascii : (style : Style) (n : ℕ) → all_ascii (number style n) ≡ true
 unfolding all_ascii number
 number-ascii Masm n =
@@ -83,6 +84,7 @@ decimal-one : (n : ℕ) → n < 80 → all_ascii ((48 + n) ∷ []) ≡ true
 unfolding all_ascii
 decimal-one n lt = ascii-one (48 + n) [] (omega arith) refl
 
+-- so is a number in decimal
 pub decimal-ascii : (n : ℕ) → n < 80 → all_ascii (decimal n) ≡ true
 unfolding decimal
 decimal-ascii n lt = ascii-if (nat_lt n 10) _ _ (decimal-one n lt) (decimal-two n lt)
@@ -105,6 +107,7 @@ high_byte_name-ascii : (n : ℕ) → all_ascii (high_byte_name n) ≡ true
 unfolding all_ascii high_byte_name
 high_byte_name-ascii n = ascii-if (n == 0) _ _ refl (ascii-if (n == 1) _ _ refl (ascii-if (n == 2) _ _ refl refl))
 
+-- so is the name of a segment register
 pub segment_name-ascii : (s : Segment) → all_ascii (segment_name s) ≡ true
 unfolding all_ascii segment_name
 segment_name-ascii Es = refl
@@ -153,10 +156,12 @@ sigil-ascii Intel = refl
 sigil-ascii Masm = refl
 sigil-ascii Att = refl
 
+-- so is the name of a register
 pub register-ascii : (style : Style) (r : Register) → is_named r ≡ true → all_ascii (register style r) ≡ true
 unfolding register
 register-ascii style r h = ascii-append (sigil style) _ (sigil-ascii style) (register_name-ascii style r h)
 
+-- so is a segment override
 pub segment_override-ascii : (style : Style) (seg : Option Segment) → all_ascii (segment_override style seg) ≡ true
 unfolding all_ascii segment_override
 segment_override-ascii style None = refl

@@ -79,6 +79,7 @@ operand_size_word-ascii bits row =
     (λ size. ascii-if (differs size (usual_size bits row)) (sized_word (codes "o") size) [] (sized_word-ascii (codes "o") size refl) refl))
     refl
 
+-- the prefix words are ASCII
 pub prefix_words-ascii : (bits : Bits) (row : Row) (name : List ℕ) (instr : Instr) → all_ascii (prefix_words bits row name instr) ≡ true
 unfolding prefix_words
 prefix_words-ascii bits row name instr =
@@ -93,6 +94,7 @@ counter_jump-ascii B16 = refl
 counter_jump-ascii B32 = refl
 counter_jump-ascii B64 = refl
 
+-- so is a name as it is printed
 pub name_text-ascii : (bits : Bits) (name : List ℕ) (instr : Instr) → all_ascii name ≡ true → all_ascii (name_text bits name instr) ≡ true
 unfolding name_text
 name_text-ascii bits name instr h = ascii-if (is_counter_jump name) _ _ (counter_jump-ascii _) h
@@ -126,6 +128,7 @@ size_word-ascii : (style : Style) (row : Row) (n : ℕ) → all_ascii (size_word
 unfolding size_word
 size_word-ascii style row n = ascii-append (operand_size_name row n) _ (operand_size_name-ascii row n) (behind_size-ascii style _)
 
+-- so is what separates operands
 pub separator-ascii : (first : Bool) (op : Operand) → all_ascii (separator first op) ≡ true
 unfolding all_ascii separator
 separator-ascii first AbsentOperand = refl
@@ -138,6 +141,7 @@ is_printable (Reg r) = is_named r
 is_printable (MemOperand m) = nat_lt m.scale 80 && (is_named_if m.base && is_named_if m.index)
 is_printable _ = true
 
+-- a printable memory operand has registers and a scale that are printable
 pub printable-address : (m : Mem) → is_printable (MemOperand m) ≡ true → IsPrintable m
 unfolding is_printable
 printable-address m h =
@@ -174,6 +178,7 @@ pub record ArePrintable (instr : Instr) : Type 0 where
   pub third : is_printable (nth_operand instr 2) ≡ true
   pub fourth : is_printable (nth_operand instr 3) ≡ true
 
+-- a text with brackets is ASCII
 pub bracket_layout-ascii : (style : Style) (bits : Bits) (row : Row) (name : List ℕ) (instr : Instr) → all_ascii name ≡ true → ArePrintable instr
     → all_ascii (bracket_layout style bits row name instr) ≡ true
 unfolding bracket_layout

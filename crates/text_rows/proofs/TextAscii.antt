@@ -39,6 +39,7 @@ ascii-at [] k h = refl
 ascii-at (x ∷ xs) zero h = (and_parts (all_ascii x) (each_ascii xs) h).0
 ascii-at (x ∷ xs) (suc k) h = ascii-at xs k (and_parts (all_ascii x) (each_ascii xs) h).1
 
+-- a name is ASCII
 pub name_of-ascii : (code : ℕ) → all_ascii (name_of code) ≡ true
 unfolding name_of
 name_of-ascii code = ascii-at names code names-ascii
@@ -86,6 +87,7 @@ formed-printable row i h =
       fourth = operand-printable row i 3 (and_parts (operand_is_formed row i 2) _ rest').1;
     }
 
+-- the operands of a well-formed instruction are printable
 pub are_printable : (i : Instr) → IsTrue (is_well_formed i) → ArePrintable i
 are_printable i h = let f = formed_row i h in formed-printable f.0 i f.2
 
