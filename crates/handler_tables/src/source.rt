@@ -1,5 +1,5 @@
 //! What the nine fields of an instruction are read from.
-ghost use Rattle.std.specs.Prelude.{◌≡◌, is_some};
+ghost use Rattle.std.specs.Prelude.{◌≡◌};
 ghost use Rattle.prefixes.specs.Answer.{mode_of};
 ghost use Rattle.x86_values.specs.declared.Bits.{Bits};
 ghost use Rattle.row_lists.specs.declared.row_fields.Fields.{Fields};
