@@ -1,14 +1,14 @@
 #!/usr/bin/env python3
-"""Measures what a line of text takes in `asm`, in GNU as and in NASM: the same instructions, each in the style of the assembler that reads it.
+"""Measures the time of a line of text in `asm`, in GNU as and in NASM: the same instructions, each in the style of its assembler.
 
     bench/assemblers.py FILE [BITS] [PROGRAM]
 
-FILE is raw code, of which the first 500,000 bytes are listed by PROGRAM (else the repository's built listing_program). Its first 20,000 lines (LINES=n for
-another number) are given to each assembler, and then half of them: what the second half takes is told for each line, so starting a program does not
-count. Processor time is the least of five runs; machine instructions are counted where valgrind is installed. Targets stand in the sources of GNU as
-and NASM as distances, as tools/assemble_listing.py and tools/nasm_texts.py write them. What an assembler refuses is left out for it.
+FILE is raw code. PROGRAM (by default the repository's built listing_program) lists its first 500,000 bytes. The first 20,000 lines of the listing (LINES=n
+for another number) are passed to each assembler, and then half of them. The difference is the time of the second half, so the start of a program does not
+count. Processor time is the least of five runs. Machine instructions are counted if valgrind is installed. For GNU as and NASM, targets are written as
+distances, as tools/assemble_listing.py and tools/nasm_texts.py do. Lines that an assembler refuses are left out for it.
 
-Needs Debian's binutils and nasm. Nothing rests on this script.
+The script needs Debian's binutils and nasm. No proof depends on it.
 """
 import importlib.util
 import os
@@ -40,7 +40,7 @@ def of_ours(program, bits, intel, _, folder):
 
 
 def of_gnu(program, bits, _, att, folder):
-    """AT&T texts behind the directives that GNU as wants."""
+    """AT&T texts after the directives that GNU as needs."""
     made = tool("assemble_listing")
     items = [made.item_of(bits, line) for line in att]
     lines = [f".code{bits}", ".text", *(item.source for item in items if item)]
@@ -48,7 +48,7 @@ def of_gnu(program, bits, _, att, folder):
 
 
 def of_nasm(program, bits, intel, _, folder):
-    """Intel texts behind the lines that give NASM the words for sizes."""
+    """Intel texts after the lines that define the size words for NASM."""
     made = tool("nasm_texts")
     lines = [made.NAMES.rstrip(), f"bits {bits}", *(item.source for item in made.items_of(bits, "\n".join(intel)))]
     return "\n".join(lines) + "\n", ["nasm", "-f", "bin", "-w-all", "-o", f"{folder}/out.bin", f"{folder}/texts.s"], False
@@ -85,7 +85,7 @@ def count(command, text, is_input, folder):
 
 def main():
     if not 2 <= len(sys.argv) <= 4:
-        sys.exit("usage: bench/assemblers.py FILE [BITS] [PROGRAM]")
+        sys.exit("usage: bench/assemblers.py FILE [BITS] [PROGRAM], with FILE raw code and BITS 16, 32 or 64")
     bits = sys.argv[2] if len(sys.argv) > 2 else "64"
     program = os.path.realpath(sys.argv[3] if len(sys.argv) > 3 else f"{TOP}/crates/listing_program/out/listing_program")
     with open(sys.argv[1], "rb") as file:
@@ -103,9 +103,9 @@ def main():
             half = "\n".join(lines[: len(lines) // 2]) + "\n"
             more = len(lines) - len(lines) // 2
             times = [min(run(command, it, is_input, folder)[0] for _ in range(RUNS)) for it in (text, half)]
-            told = f"{name:<16} {(times[0] - times[1]) * 1e9 / more:9.0f} ns a line"
+            told = f"{name:<16} {(times[0] - times[1]) * 1e9 / more:9.0f} ns per line"
             if shutil.which("valgrind"):
-                told += f" {(count(command, text, is_input, folder) - count(command, half, is_input, folder)) / more:9.0f} machine instructions a line"
+                told += f" {(count(command, text, is_input, folder) - count(command, half, is_input, folder)) / more:9.0f} machine instructions per line"
             print(told, flush=True)
 
 

@@ -1,13 +1,13 @@
 #!/usr/bin/env python3
-"""Measures commands of listing_program as a whole, with the start of the program: how long they take, and how that grows with the input.
+"""Measures whole commands of listing_program, including the start of the program, over inputs of growing size.
 
     bench/commands.py FILE [PROGRAM]
 
-FILE is raw 64-bit code, of the size of gdb's text at least; PROGRAM is the built listing_program (else the repository's). It prints a table for `move`, one
-for `flow` and one for `list`. Times are processor time, the best and the median of twenty runs (RUNS=n for another number).
-Machine instructions are counted by valgrind where it is installed, for each line or instruction, without what the least input takes.
+FILE is raw 64-bit code, at least as large as gdb's text section. PROGRAM is the built listing_program, by default the repository's. The script prints a table
+for `move`, one for `flow` and one for `list`. Times are processor time, the best and the median of twenty runs (RUNS=n for another number). Machine
+instructions for each line or instruction are counted by valgrind, if it is installed, minus those of the smallest input.
 
-`flow` reads the first bytes of FILE behind a call of each target that a direct branch in them has, so that most of them is reached.
+For `flow`, the first bytes of FILE follow a call of each target of a direct branch in them, so that most of them are reached.
 """
 import os
 import re
@@ -29,7 +29,7 @@ def timed(command, file):
         _, status, used = os.wait4(child.pid, 0)
         child.returncode = os.waitstatus_to_exitcode(status)
     if child.returncode != 0:
-        sys.exit(f"{' '.join(command)} ended with {child.returncode}")
+        sys.exit(f"commands.py: `{' '.join(command)}` ended with status {child.returncode}")
     return used.ru_utime + used.ru_stime
 
 
@@ -45,7 +45,7 @@ def lines(command, code):
 
 
 def row(first, command, code, items, least, folder):
-    """A row of a table: what it is, best, median, machine instructions for each item."""
+    """Prints a row of a table: its name, best, median, machine instructions for each item."""
     file = f"{folder}/input.bin"
     with open(file, "wb") as it:
         it.write(code)
@@ -60,7 +60,7 @@ def row(first, command, code, items, least, folder):
 
 
 def behind_calls(program, code):
-    """The code behind a call of each target of a direct branch in it."""
+    """The code, after a call of each target of a direct branch in it."""
     found = (TARGET.search(line) for line in lines([program, "list", "64", "0", "intel"], code))
     targets = sorted({int(it[1], 16) for it in found if it and int(it[1], 16) < len(code)})
     front = 5 * len(targets)
@@ -70,7 +70,7 @@ def behind_calls(program, code):
 
 def main():
     if len(sys.argv) not in (2, 3):
-        sys.exit("usage: bench/commands.py FILE [PROGRAM]")
+        sys.exit("usage: bench/commands.py FILE [PROGRAM], with FILE raw 64-bit code")
     program = os.path.realpath(sys.argv[2] if len(sys.argv) == 3 else f"{TOP}/crates/listing_program/out/listing_program")
     with open(sys.argv[1], "rb") as it:
         code = it.read()
@@ -87,7 +87,7 @@ def main():
         for size in (131_072, 262_144, 524_288, 1_048_576):
             given = behind_calls(program, code[:size])
             reached = len(lines([program, "flow", "64", "0"], given))
-            row(f"{size:,}, of which {reached:,} starts are reached", [program, "flow", "64", "0"], given, reached, b"\xc3", folder)
+            row(f"{size:,}, with {reached:,} starts reached", [program, "flow", "64", "0"], given, reached, b"\xc3", folder)
         print(f"\n| `list`, bytes {head}")
         for size in (16_384, 1_048_576, 16_000_000):
             given = (code * (size // len(code) + 1))[:size]

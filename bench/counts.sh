@@ -1,18 +1,18 @@
 #!/usr/bin/env bash
-# Counts the machine instructions of each thing that the library and the program do, by valgrind: a line for each, which
-# other work on the machine does not change. bench/README.md says what the lines are.
+# Counts the machine instructions of each thing that the library and the program do, by valgrind. Other work on the machine does
+# not change the counts. bench/README.md describes the lines.
 #
 #     bench/counts.sh FILE [BITS]
 #
-# FILE is raw code. Its first 500,000 bytes are taken (COUNTED=n for another number). Builds stand in $BENCH_FOLDER, else in
-# a folder of $TMPDIR; they are made anew where they are not there.
+# FILE is raw code, of which the first 500,000 bytes are used (COUNTED=n for another number). Builds are kept in $BENCH_FOLDER, or
+# else in a folder of $TMPDIR, and made if they are missing.
 set -euo pipefail
 
 if [ $# -lt 1 ] || [ $# -gt 2 ]; then
-    echo "usage: $0 FILE [BITS]" >&2
+    echo "usage: $0 FILE [BITS], with FILE raw code and BITS 16, 32 or 64" >&2
     exit 1
 fi
-command -v valgrind >/dev/null || { echo "$0: valgrind is not there" >&2; exit 1; }
+command -v valgrind >/dev/null || { echo "$0: valgrind is not installed: install it (Debian: valgrind)" >&2; exit 1; }
 file=$(realpath "$1")
 bits=${2:-64}
 top=$(realpath "$(dirname "$0")/..")
@@ -30,7 +30,7 @@ build() {
     cp "$top/crates/$crate/out/$crate" "$folder/$crate"
 }
 
-# The machine instructions of a command, whose output goes nowhere: COMMAND ARGUMENT..
+# The machine instructions of a command, whose output is discarded: COMMAND ARGUMENT..
 count() {
     valgrind --tool=cachegrind --cache-sim=no --cachegrind-out-file=/dev/null "$@" 2>&1 >/dev/null | sed -n 's/.*I *refs: *//p' | tr -d ,
 }
@@ -40,12 +40,12 @@ line() {
     awk -v name="$1" -v all="$2" -v items="$3" 'BEGIN { printf "%-28s %9.0f\n", name, all / items }'
 }
 
-# What a second pass of a measurement adds: COMMAND ARGUMENT.., with the number of passes as the last argument
+# The machine instructions of the second pass of a measurement: COMMAND ARGUMENT.., with the number of passes as the last argument
 second_pass() {
     echo $(($(count "$@" 2 <"$part") - $(count "$@" 1 <"$part")))
 }
 
-# What a command of the program takes for its input, without its start: ARGUMENT.. on standard input, which is a file
+# The machine instructions of a command of the program without its start: INPUT ARGUMENT.., with a file as standard input
 whole() {
     local input=$1
     shift
@@ -66,14 +66,14 @@ line "encode, on top of decode" $(($(second_pass "$folder/decode_speed" encode "
 line "a line of list intel" "$(whole "$part" list "$bits" 0 intel)" "$lines"
 line "a line of list att" "$(whole "$part" list "$bits" 0 att)" "$lines"
 
-# info, recode and move end at bad code, so they go over what stands in front of the first single byte
+# info, recode and move end at bad code, so they get the code before the first single byte
 bad=$(awk '$3 == "db" { print $1; exit }' "$list")
 code=$folder/counted-code.bin
 if [ -n "$bad" ]; then head -c $((16#$bad)) "$part" >"$code"; else cp "$part" "$code"; fi
 line "a line of info" "$(whole "$code" info "$bits" 0)" "$("$folder/listing_program" info "$bits" 0 <"$code" | wc -l)"
 line "a line of recode" "$(whole "$code" recode "$bits" 0 "$bits" 0)" "$("$folder/listing_program" recode "$bits" 0 "$bits" 0 <"$code" | wc -l)"
 
-# each text stands at the address at which it was listed, as the encodings are not shortened: the first run of them
+# the texts keep their listed addresses as long as no encoding becomes shorter: the first run of lines
 texts=$folder/counted.txt
 head -n "${ASM_LINES:-20000}" "$list" | cut -c49- >"$texts"
 line "a line of asm" "$(whole "$texts" asm "$bits" 0)" "$(wc -l <"$texts")"
@@ -83,7 +83,7 @@ end=$(awk 'NR == 65536 { print $1; exit } $3 == "db" { print $1; exit }' "$list"
 if [ -n "$end" ]; then head -c $((16#$end)) "$part" >"$moved"; else cp "$part" "$moved"; fi
 line "an instruction of move" "$(whole "$moved" move "$bits" 400000 10000000)" "$("$folder/listing_program" map "$bits" 400000 10000000 <"$moved" | wc -l)"
 
-# the library for C, where it was built: capi/build.sh FOLDER/capi
+# the library for C, built once: capi/build.sh FOLDER/capi
 if [ ! -f "$folder/capi/libfeddurzai.a" ]; then "$top/capi/build.sh" "$folder/capi" >&2; fi
 for work in decode text line encode; do
     flags=()

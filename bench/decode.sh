@@ -1,11 +1,11 @@
 #!/usr/bin/env bash
-# Measures how fast a file of code is read, here and by other libraries: bench/README.md. It builds, runs and prints.
+# Measures how fast this library and others decode, print and encode a file of code. bench/README.md describes the output.
 #
 #     bench/decode.sh FILE [BITS]
 set -euo pipefail
 
 if [ $# -lt 1 ] || [ $# -gt 2 ]; then
-    echo "usage: $0 FILE [BITS]" >&2
+    echo "usage: $0 FILE [BITS], with FILE raw code and BITS 16, 32 or 64" >&2
     exit 1
 fi
 file=$(realpath "$1")
@@ -16,7 +16,7 @@ folder=${BENCH_FOLDER:-${TMPDIR:-/tmp}/feddurzai-bench}
 program=$top/crates/decode_speed
 mkdir -p "$folder/peers"
 
-# Builds the crate of the measurement by each of the two compilers.
+# Builds the measured crate by each of the two compilers.
 build() {
     local compiler
     for compiler in llvm rattle; do
@@ -25,15 +25,15 @@ build() {
     done
 }
 
-# Builds a peer, or says that its library is not there: NAME SOURCE FLAG..
+# Builds a peer, or reports that its library is missing: NAME SOURCE FLAG..
 peer() {
     local name=$1 source=$2
     shift 2
     rm -f "$folder/peers/$name"
-    cc -O2 -o "$folder/peers/$name" "$top/bench/peers/$source" "$@" 2>"$folder/peers/$name.log" || echo "$name: not built, its library is not there" >&2
+    cc -O2 -o "$folder/peers/$name" "$top/bench/peers/$source" "$@" 2>"$folder/peers/$name.log" || echo "$name: left out, its library is not installed or it does not compile: see $folder/peers/$name.log" >&2
 }
 
-# Runs one measurement over a file: NAME FILE PASSES. A name of ours is COMPILER_WORK. With COUNTER set, under that command.
+# Runs one measurement over a file: NAME FILE PASSES. Our names are COMPILER_WORK. If COUNTER is set, runs under that command.
 run() {
     case $1 in
     llvm_* | rattle_*) ${COUNTER:-} "$folder/by_${1%_*}" "${1#*_}" "$bits" "$3" <"$2" | sed "s/^feddurzai/feddurzai by ${1%_*}/" ;;
@@ -51,7 +51,7 @@ with_rates() {
     }'
 }
 
-# objdump, one pass, with its start and its output, which goes nowhere.
+# objdump, one pass, with its start and its output, which is discarded.
 objdump_line() {
     local machine items used
     case $bits in 16) machine=i8086 ;; 32) machine=i386 ;; *) machine=i386:x86-64 ;; esac
@@ -86,7 +86,7 @@ for round in $(seq "$rounds"); do
     objdump_line | with_rates
 done
 
-echo "each instruction encoded at its own address and read again"
+echo "each instruction encoded at its own address and decoded again"
 "$folder/by_llvm" check "$bits" 1 <"$file"
 
 if command -v valgrind >/dev/null; then

@@ -1,10 +1,10 @@
 #!/usr/bin/env python3
-"""Writes the codes of common instructions into feddurzai.h, tests/codes.h and the Python package, from the rows of the table.
+"""Writes the codes of common instructions to feddurzai.h, tests/codes.h and the Python package, from the rows of the table.
 
-    listing_program rows | capi/codes.py            writes all three
-    listing_program rows | capi/codes.py --check    says whether they are as they would be written: exit status 1 where not
+    listing_program rows | capi/codes.py            writes all three files
+    listing_program rows | capi/codes.py --check    compares the three files with what it would write; exit status 1 if one differs
 
-A row is `CODE NOTATION NAME`. The list below says which rows have a constant and how each is named; the numbers come from the rows alone.
+A row is `CODE NOTATION NAME`. The list below selects the rows that have a constant and names each; the numbers come from the rows alone.
 """
 
 import os
@@ -69,7 +69,7 @@ def wanted():
 
 
 def read_rows(lines):
-    """Of each name and notation the code and how many rows of the name stand before it."""
+    """Maps each name and notation to the code and the number of rows of the name before it."""
     rows, seen = {}, {}
     for line in lines:
         code, rest = line.rstrip("\n").split(" ", 1)
@@ -81,17 +81,19 @@ def read_rows(lines):
 
 PYTHON_HEAD = '''"""The codes of common instructions. codes.py writes this file from the rows of the table."""
 
-import enum
+from ._numbers import Named
 
 
-class Code(enum.IntEnum):
-    """The codes of common instructions, for an `Instr`; `code_of` finds all others.
+class Code(Named):
+    """The codes of common instructions, for an `Instr`; `code_of` finds the others.
 
-    RM is a register or memory, REL an offset, IMM an immediate, and the number its bits. JMP, CALL, Jcc, RET, PUSH, POP and LEAVE are those
-    of 64-bit code, but where _O32, R32 or RM32 says that they are of 32-bit code.
+    In the names RM is a register or memory, REL an offset and IMM an immediate, and a number is a width in bits. JMP, CALL, Jcc, RET, PUSH,
+    POP and LEAVE are of 64-bit code, unless _O32, R32 or RM32 marks them as 32-bit code.
 
     >>> Instr(Code.JMP_REL32, Near(0x2000)).encode(64, 0x1000).hex()
     'e9fb0f0000'
+    >>> print(Code.JMP_REL32)
+    Code.JMP_REL32
     >>> Code.JMP_REL32 == code_of("jmp", "o64 E9 cd")
     True
     """
@@ -104,7 +106,7 @@ def parts(rows):
     constants, tests, members = [], [], []
     for constant, name, notation in wanted():
         if (name, notation) not in rows:
-            sys.exit(f"codes.py: no row {notation} {name}")
+            sys.exit(f"codes.py: standard input has no row {notation} {name}: pass it the output of listing_program rows")
         code, n = rows[name, notation]
         constant = constant.upper()
         members.append(f"    {constant} = {code}".ljust(32) + f"# {notation}\n")
@@ -120,7 +122,7 @@ def parts(rows):
 
 
 def text_of(path):
-    """What a file has, and nothing where there is none."""
+    """The text of a file, empty if there is no such file."""
     if not os.path.exists(path):
         return ""
     with open(path) as file:
@@ -144,7 +146,7 @@ def main():
     }
     if check:
         other = [path for path, text in written.items() if text_of(path) != text]
-        sys.exit(f"codes.py: the codes are not those of the rows in {', '.join(other)}" if other else 0)
+        sys.exit(f"codes.py: out of date: {', '.join(other)}: run codes.py without --check" if other else 0)
     for path, text in written.items():
         with open(path, "w") as file:
             file.write(text)

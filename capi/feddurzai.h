@@ -1,26 +1,34 @@
 /*
- * Feddurzai: x86 instructions read, written, told and moved (16, 32 and 64-bit code).
+ * Feddurzai: decodes, encodes, prints, analyses and relocates x86 machine code (16, 32 and 64-bit).
  *
- * The functions below are a proved library: each meets a definition that a person can read (crates/feddurzai_c),
- * for every value of its arguments. What is no mode, no instruction, no row of the table or too small a room is
- * answered by a number below zero, never by undefined behaviour.
+ * The functions are proved: each meets a definition that a person can read (crates/c_calls/specs), for every value of
+ * its arguments. Any argument out of range produces a negative status and never undefined behaviour. capi/README.md
+ * says what is proved and what is only tested.
  *
- * What a caller has to keep, since nothing can check it:
- *  - A pointer with a length points to at least that many elements. It may be NULL where the length is 0.
+ * The caller must ensure three things that no function can check:
+ *  - A pointer that comes with a length points to at least that many elements. It may be NULL if the length is 0.
  *  - A pointer to a struct points to a struct of this header.
- *  - Memory that a call writes (`out`, `instr` of feddurzai_decode, ..) is not also read or written by another
- *    argument of that call, and by no other thread while the call runs.
+ *  - Memory that a call writes does not overlap another argument of that call, and no other thread accesses it while
+ *    the call runs.
  *
- * NULL where it may not stand is answered by FEDDURZAI_NULL: the inline functions at the end of this header, which are
- * called in place of the library's, see to that. A caller without them (dlsym, another language) has to keep NULL out.
+ * A NULL pointer that is not allowed yields FEDDURZAI_NULL. The inline functions at the end of this header check for it
+ * and replace the library's functions. A caller that bypasses them (dlsym, another language) must not pass NULL.
  *
- * Threads: no function keeps any state, so all may be called from any number of threads at once, and none takes a lock.
- * All but feddurzai_move, feddurzai_move_outside, feddurzai_move_blocks, feddurzai_step, feddurzai_flow,
- * feddurzai_flow_from and feddurzai_detour take no memory, and may be called from a signal handler and from a hook of
- * malloc; those seven call malloc, realloc and free, and give back all that they took.
- * Nothing is owned by the library: every result is in memory of the caller's.
+ * Buffers belong to the caller. A buffer is a pointer and the number of its elements: `out` and `room`, for example.
+ * The library owns nothing and returns no pointers.
  *
- * C99 and C++. All numbers are in the byte order of the machine. Lengths and sizes are in bytes.
+ * Both libraries have unwind information, also below malloc, realloc and free, so that debuggers, profilers and
+ * backtrace() find the callers. It is made after the compiler (capi/unwind.py); it is tested, not proved.
+ *
+ * Threads: the library has no global state and takes no locks, so any number of threads may call it at once.
+ *
+ * Memory: feddurzai_move, feddurzai_move_outside, feddurzai_move_blocks, feddurzai_step, feddurzai_flow,
+ * feddurzai_flow_from and feddurzai_detour call malloc, realloc and free, and free all that they allocate before they
+ * return. All other functions allocate nothing and may be called from a signal handler or from a hook of malloc.
+ *
+ * The header is C99 and C++. Numbers are in the machine's byte order. Lengths and sizes are in bytes. "SDM" is the
+ * Intel 64 and IA-32 Architectures Software Developer's Manual; sections are of its volume 2 if no volume is named. The
+ * indented examples are compiled and run by capi/tests/header_examples.c, which declares the variables that they use.
  */
 #ifndef FEDDURZAI_H
 #define FEDDURZAI_H
@@ -34,101 +42,118 @@ extern "C" {
 
 /* ---- versions ---------------------------------------------------------------------------------------------- */
 
-/* The number of this interface. It rises when a struct, a number or a function changes. */
+/* The interface that this header declares. It rises when a struct, a number or a function changes. */
 #define FEDDURZAI_INTERFACE 3
 
-/* The interface of the library that is linked: to be compared with FEDDURZAI_INTERFACE. */
+/*
+ * Returns the interface of the linked library. If it is not FEDDURZAI_INTERFACE, the library does not match this
+ * header.
+ *
+ *     if (feddurzai_interface() != FEDDURZAI_INTERFACE)
+ *         return 1;
+ */
 uint32_t feddurzai_interface(void);
 
-/* The version, the same as the program's: major << 16 | minor << 8 | patch. */
+/* Returns the version of the library, which is also the program's: major << 16 | minor << 8 | patch. */
 uint32_t feddurzai_version(void);
 
 /* ---- refusals ---------------------------------------------------------------------------------------------- */
 
 /*
- * A function that returns an int32_t says 0 or more where it did what it was asked, and else one of these. After a
- * refusal nothing was written (feddurzai_move, feddurzai_move_outside, feddurzai_move_blocks, feddurzai_step and
- * feddurzai_detour alone write their report always, but for FEDDURZAI_NULL). Where several stand together, the first in
- * the list of the function is told; before all of them FEDDURZAI_NULL, which every function that takes a pointer may
- * return, and no list repeats.
+ * Statuses. A function that returns int32_t returns 0 or more on success and one of these on refusal.
+ *
+ * After a refusal the function has written nothing, with one exception: feddurzai_move, feddurzai_move_outside,
+ * feddurzai_move_blocks, feddurzai_step and feddurzai_detour always write their report, unless they return
+ * FEDDURZAI_NULL.
+ *
+ * If several refusals apply, the function returns the first in the order of its comment. FEDDURZAI_NULL precedes all
+ * others. Every function that takes a pointer can return it, so the comments do not repeat it.
  */
 enum {
     FEDDURZAI_BAD_MODE = -1,        /* bits is not 16, 32 or 64 */
-    FEDDURZAI_BAD_SYNTAX = -2,      /* the style is not one of FEDDURZAI_INTEL, _ATT, _MASM */
-    FEDDURZAI_BAD_CODE = -3,        /* the code is no row of the table */
-    FEDDURZAI_BAD_INSTR = -4,       /* the struct is no instruction: a field has a number that stands for nothing */
-    FEDDURZAI_BAD_FORM = -5,        /* its operands do not have the form of its row, or the code is no row */
-    FEDDURZAI_NO_ROOM = -6,         /* the room is too small */
-    FEDDURZAI_INVALID = -7,         /* the bytes begin with no instruction, and more bytes would not change that */
-    FEDDURZAI_TOO_SHORT = -8,       /* the bytes end before an instruction does */
-    FEDDURZAI_NO_NAME = -9,         /* no row has this name and number; no feature this bit; no operand this number */
-    FEDDURZAI_NO_MEMORY = -10,      /* malloc had no memory */
-    FEDDURZAI_TOO_LARGE = -11,      /* there are more than FEDDURZAI_MAX_CODE bytes (feddurzai_flow_from: _MAX_FLOW) */
-    FEDDURZAI_TOO_MANY = -12,       /* there are more than FEDDURZAI_MAX_MOVED instructions */
-    FEDDURZAI_WRAPS = -13,          /* the old or the new code passes the address space of the mode */
-    FEDDURZAI_TOO_FAR = -14,        /* an instruction cannot reach its target from its new place */
-    FEDDURZAI_NULL = -15,           /* NULL for a struct, or with a length above 0; it is this header that says so */
-    FEDDURZAI_NO_TEXT = -16,        /* no instruction that has an encoding there has this text */
-    FEDDURZAI_NO_REGISTER = -17,    /* no register has this class and number; no prefix names such a segment */
+    FEDDURZAI_BAD_SYNTAX = -2,      /* the style is not FEDDURZAI_INTEL, FEDDURZAI_ATT or FEDDURZAI_MASM */
+    FEDDURZAI_BAD_CODE = -3,        /* no row of the table has this code */
+    FEDDURZAI_BAD_INSTR = -4,       /* the struct is not an instruction: a field holds a number that means nothing */
+    FEDDURZAI_BAD_FORM = -5,        /* the operands do not match the row, or no row has the code */
+    FEDDURZAI_NO_ROOM = -6,         /* a buffer is too small */
+    FEDDURZAI_INVALID = -7,         /* no instruction begins with these bytes, whatever follows them */
+    FEDDURZAI_TOO_SHORT = -8,       /* the bytes end before the instruction does */
+    FEDDURZAI_NO_NAME = -9,         /* no row has this name and number, no feature this bit, no operand this index */
+    FEDDURZAI_NO_MEMORY = -10,      /* malloc returned NULL */
+    FEDDURZAI_TOO_LARGE = -11,      /* more than FEDDURZAI_MAX_CODE bytes (feddurzai_flow_from: FEDDURZAI_MAX_FLOW) */
+    FEDDURZAI_TOO_MANY = -12,       /* more than FEDDURZAI_MAX_MOVED instructions */
+    FEDDURZAI_WRAPS = -13,          /* the old or the new code extends past the address space of the mode */
+    FEDDURZAI_TOO_FAR = -14,        /* an instruction cannot reach its target from its new address */
+    FEDDURZAI_NULL = -15,           /* NULL for a struct, or with a length above 0; only this header returns it */
+    FEDDURZAI_NO_TEXT = -16,        /* no instruction that can be encoded at the address has this text */
+    FEDDURZAI_NO_REGISTER = -17,    /* no register has this class and number; no prefix names this segment */
     FEDDURZAI_BAD_JUMP = -18,       /* the form is not one of FEDDURZAI_JUMP_SHORT .. FEDDURZAI_CALL_FAR */
     FEDDURZAI_BAD_START = -19,      /* start is not FEDDURZAI_START_MOVED or FEDDURZAI_START_HOOKED */
-    FEDDURZAI_SMALL = -20,          /* the function has fewer bytes than the jump */
-    FEDDURZAI_ENDS = -21,           /* the function ends in what is written over, and other code stands there */
-    FEDDURZAI_ENTERED = -22,        /* control may go into what is written over, behind its first byte */
-    FEDDURZAI_BAD_BLOCK = -23,      /* a block is not inside the bytes */
-    FEDDURZAI_BAD_REGION = -24,     /* the numbers are no region, or its blocks do not stand inside it in order */
-    FEDDURZAI_EMPTY = -25,          /* a place for 0 bytes */
+    FEDDURZAI_SMALL = -20,          /* the function is shorter than the jump */
+    FEDDURZAI_ENDS = -21,           /* control ends within the overwritten bytes, and other code follows there */
+    FEDDURZAI_ENTERED = -22,        /* control may enter the overwritten bytes after the first one */
+    FEDDURZAI_BAD_BLOCK = -23,      /* a block is not inside the given bytes */
+    FEDDURZAI_BAD_REGION = -24,     /* the numbers describe no region, or its blocks are unordered or outside it */
+    FEDDURZAI_EMPTY = -25,          /* 0 bytes were requested */
     FEDDURZAI_FULL = -26,           /* no gap of the region is long enough */
-    FEDDURZAI_NOT_LIVE = -27        /* no live block starts at that address */
-    /* at and below -256: the instruction has no encoding, see FEDDURZAI_CAUSE */
+    FEDDURZAI_NOT_LIVE = -27        /* no live block starts at this address */
+    /* -256 and below: the instruction has no encoding, see FEDDURZAI_CAUSE */
 };
 
 /*
- * Why feddurzai_encode finds no encoding: the first of ten conditions that fails, and the first operand that fails it,
- * 0 to 3. The causes _KIND to _TARGET have an operand. Of an address and its displacement it is the memory operand, of a
- * target the near target or the memory operand at RIP or EIP: the only one, since no row has two operands that can be
- * these. Two equal vector registers of a gather count with operand 0. The other causes are of the whole instruction,
- * and have 0 there.
- * `said` is a number below zero.
+ * Decode a status of -256 or below: why feddurzai_encode, feddurzai_encoded_len or feddurzai_jump finds no encoding.
  *
- * Some instructions that feddurzai_decode reads have no encoding where they stand, since the shortest spelling no
- * longer reaches: 2e 2e 74 7f is a short branch with a prefix twice; with one of them it is 3 bytes, and its target 128
- * bytes behind these, which 8 bits do not hold (_TARGET). Such bytes are kept as they were read.
+ * An instruction that has an encoding meets ten conditions (docs/plain-spellings.md). The cause is the first that
+ * fails, in the order of the numbers below. FEDDURZAI_CAUSE gives it, and 0 for every other refusal; `said` is the
+ * status, a negative number. FEDDURZAI_CAUSE_OPERAND gives the first operand that fails the condition, 0 to 3:
+ *  - Causes _KIND to _TARGET concern an operand. _MEMORY and _DISPLACEMENT concern the memory operand. _TARGET concerns
+ *    the near target or the memory operand at RIP or EIP. No row has two operands of these kinds.
+ *  - Equal vector registers of a gather are reported as operand 0 (_REGISTER).
+ *  - The other causes concern the whole instruction; their operand is 0.
+ *
+ * Some decoded instructions have no encoding at their own address, because the shortest encoding no longer reaches the
+ * target. 2e 2e 74 7f is a short branch with a repeated prefix. Without the repetition it has 3 bytes, and its target
+ * is 128 bytes past their end, which 8 bits cannot hold. Keep such bytes as they are.
+ *
+ *     int32_t said = feddurzai_decode(64, 0x1000, (const uint8_t *)"\x2e\x2e\x74\x7f", 4, &instr);
+ *     said = feddurzai_encoded_len(64, 0x1000, &instr);
+ *     if (FEDDURZAI_CAUSE(said) == FEDDURZAI_CAUSE_TARGET)
+ *         printf("operand %d is out of reach\n", (int)FEDDURZAI_CAUSE_OPERAND(said));
  */
 #define FEDDURZAI_CAUSE(said) ((-(said)) >> 8)      /* 0 for any other refusal */
 #define FEDDURZAI_CAUSE_OPERAND(said) ((-(said)) & 255)
 enum {
-    FEDDURZAI_CAUSE_ROW = 1,            /* the code is no row of the table that exists in the mode */
-    FEDDURZAI_CAUSE_KIND = 2,           /* an operand is of a kind that cannot stand there */
-    FEDDURZAI_CAUSE_REGISTER = 3,       /* a register that cannot stand there */
-    FEDDURZAI_CAUSE_MEMORY = 4,         /* base, index and scale are no address of the mode */
-    FEDDURZAI_CAUSE_DISPLACEMENT = 5,   /* the address has no such displacement */
-    FEDDURZAI_CAUSE_IMMEDIATE = 6,      /* an immediate that its size does not hold */
+    FEDDURZAI_CAUSE_ROW = 1,            /* no row of the table that exists in the mode has the code */
+    FEDDURZAI_CAUSE_KIND = 2,           /* an operand is of a kind that the row does not take there */
+    FEDDURZAI_CAUSE_REGISTER = 3,       /* a register cannot be encoded there */
+    FEDDURZAI_CAUSE_MEMORY = 4,         /* base, index and scale are not an address of the mode */
+    FEDDURZAI_CAUSE_DISPLACEMENT = 5,   /* the address has no displacement of this width or value */
+    FEDDURZAI_CAUSE_IMMEDIATE = 6,      /* an immediate does not fit its size */
     FEDDURZAI_CAUSE_TARGET = 7,         /* a near, RIP or EIP target is out of reach */
     FEDDURZAI_CAUSE_PREFIX = 8,         /* LOCK or a repeat prefix is not allowed */
-    FEDDURZAI_CAUSE_ADDRESS_SIZE = 9,   /* the address size is absent, needless, or not that of the operand */
-    FEDDURZAI_CAUSE_LENGTH = 10         /* it would take more than 15 bytes */
+    FEDDURZAI_CAUSE_ADDRESS_SIZE = 9,   /* the address size is missing, superfluous, or not that of the operand */
+    FEDDURZAI_CAUSE_LENGTH = 10         /* the encoding would have more than 15 bytes */
 };
 
 /* ---- instructions ------------------------------------------------------------------------------------------ */
 
-#define FEDDURZAI_MAX_LEN 15    /* bytes of an instruction, at most */
-#define FEDDURZAI_MAX_TEXT 161  /* bytes of any text of this library with the 0 behind it, at most */
-#define FEDDURZAI_CODES 2083    /* rows of the table: codes are 0 to 2082 */
+#define FEDDURZAI_MAX_LEN 15    /* the longest instruction, in bytes */
+#define FEDDURZAI_MAX_TEXT 161  /* the longest text of this library with its terminating 0, in bytes */
+#define FEDDURZAI_CODES 2083    /* the number of rows of the table: codes are 0 to 2082 */
 
-/* What an operand is. */
+/* The kind of an operand, and the fields of feddurzai_operand that it uses. */
 enum {
-    FEDDURZAI_NONE = 0,         /* the instruction has no such operand; none stands behind it */
+    FEDDURZAI_NONE = 0,         /* no operand; none follows it either */
     FEDDURZAI_REGISTER = 1,     /* reg_class, reg_number */
     FEDDURZAI_MEMORY = 2,       /* base: reg_class, reg_number; index_class, index_number, scale, disp_bits, value */
-    FEDDURZAI_IMMEDIATE = 3,    /* value: cut to the operand size where it is sign-extended */
+    FEDDURZAI_IMMEDIATE = 3,    /* value; a sign-extended immediate is truncated to the operand size */
     FEDDURZAI_NEAR = 4,         /* value: the absolute address of a near branch */
     FEDDURZAI_FAR = 5           /* selector, offset */
 };
 
-/* The class of a register, and what its number means. */
+/* The class of a register, and the meaning and range of its number (SDM volume 1, 3.4 and 3.7.2.1). */
 enum {
-    FEDDURZAI_NO_REG = 0,   /* no base or index; the number is 0 */
+    FEDDURZAI_NO_REG = 0,   /* no base or no index; the number is 0 */
     FEDDURZAI_LOW8 = 1,     /* AL CL DL BL SPL BPL SIL DIL R8B .. R15B: 0 to 15 */
     FEDDURZAI_HIGH8 = 2,    /* AH CH DH BH: 0 to 3 */
     FEDDURZAI_R16 = 3,      /* AX CX DX BX SP BP SI DI R8W .. R15W: 0 to 15 */
@@ -137,84 +162,120 @@ enum {
     FEDDURZAI_SEG = 6,      /* ES CS SS DS FS GS: 0 to 5 */
     FEDDURZAI_CR = 7,       /* control registers: 0 to 15 */
     FEDDURZAI_DR = 8,       /* debug registers: 0 to 7 */
-    FEDDURZAI_ST = 9,       /* x87 stack: 0 to 7 */
-    FEDDURZAI_MM = 10,      /* 0 to 7 */
+    FEDDURZAI_ST = 9,       /* the x87 stack: 0 to 7 */
+    FEDDURZAI_MM = 10,      /* MMX registers: 0 to 7 */
     FEDDURZAI_XMM = 11,     /* 0 to 15 */
     FEDDURZAI_YMM = 12,     /* 0 to 15 */
     FEDDURZAI_EIP = 13,     /* as a base; the number is 0 */
     FEDDURZAI_RIP = 14      /* as a base; the number is 0 */
 };
 
-/* The numbers of general registers. */
+/* The numbers of the general registers without a REX prefix. */
 enum {
     FEDDURZAI_AX = 0, FEDDURZAI_CX = 1, FEDDURZAI_DX = 2, FEDDURZAI_BX = 3,
     FEDDURZAI_SP = 4, FEDDURZAI_BP = 5, FEDDURZAI_SI = 6, FEDDURZAI_DI = 7
 };
 
-/* A segment prefix, 0 without one. */
+/* Segment prefixes; 0 means none. These are not the numbers of the class FEDDURZAI_SEG, which begin at 0 (SDM 2.1.1). */
 enum {
     FEDDURZAI_ES = 1, FEDDURZAI_CS = 2, FEDDURZAI_SS = 3, FEDDURZAI_DS = 4, FEDDURZAI_FS = 5, FEDDURZAI_GS = 6
 };
 
-/* A repeat prefix, 0 without one. */
+/* Repeat prefixes; 0 means none (SDM 2.1.1). */
 enum { FEDDURZAI_REPNE = 0xF2, FEDDURZAI_REP = 0xF3 };
 
 /*
- * Leaves the width of a displacement to feddurzai_encode and feddurzai_encoded_len: the shortest that the address has. For
- * every other call a struct with it is no instruction.
+ * As `disp_bits`: lets feddurzai_encode and feddurzai_encoded_len choose the shortest displacement that the address
+ * has. Every other function refuses a struct with this value (FEDDURZAI_BAD_INSTR).
  */
 #define FEDDURZAI_DISP_SHORTEST 255
 
 /*
- * An operand. The fields that its kind does not use are written as 0 and not read. The displacement of an address is
- * sign-extended and cut to the address size; at the base RIP or EIP it is the absolute address of the operand.
+ * An operand. Fields that the kind does not use are 0 in what the library writes, and ignored in what it reads.
+ *
+ * A displacement is sign-extended and then truncated to the address size. With the base RIP or EIP it is the absolute
+ * address of the operand (SDM 2.2.1.6).
  */
 typedef struct feddurzai_operand {
     uint64_t value;         /* immediate, near target, or displacement */
     uint32_t offset;        /* of a far pointer */
     uint16_t selector;      /* of a far pointer */
     uint8_t kind;           /* FEDDURZAI_NONE .. FEDDURZAI_FAR */
-    uint8_t reg_class;      /* of the register, or of the base */
-    uint8_t reg_number;
-    uint8_t index_class;
+    uint8_t reg_class;      /* of the register, or of the base: FEDDURZAI_LOW8 .. */
+    uint8_t reg_number;     /* of the register, or of the base */
+    uint8_t index_class;    /* FEDDURZAI_NO_REG without an index */
     uint8_t index_number;
-    uint8_t scale;          /* 1, 2, 4 or 8, and 1 without an index */
-    uint8_t disp_bits;      /* how much of the displacement is written: 0, 8, 16, 32 or 64; FEDDURZAI_DISP_SHORTEST */
+    uint8_t scale;          /* 1, 2, 4 or 8; 1 without an index */
+    uint8_t disp_bits;      /* encoded width of the displacement: 0, 8, 16, 32 or 64, or FEDDURZAI_DISP_SHORTEST */
 } feddurzai_operand;
 
 /*
- * An instruction. What feddurzai_decode fills is read back as the same instruction by every other function.
+ * An instruction. Every function reads the struct that feddurzai_decode fills as the same instruction.
  *
- * To make one, set all bytes to 0, then code (feddurzai_code_of) and operands. A memory operand needs more than its
- * kind, base and index: `scale` 1 (also without an index), `disp_bits` where there is a displacement (8, or the 16 or
- * 32 of the address size; 0 says that none is written; FEDDURZAI_DISP_SHORTEST leaves it to feddurzai_encode), and the instruction's `asize`: 64 in 64-bit mode, else the size
- * of the base and index. With the base RIP, `value` is the address of the operand and disp_bits 32.
+ * To make one, set all bytes to 0; then set `code` (FEDDURZAI_CODE_.. or feddurzai_code_of) and the operands:
+ *
+ *     memset(&instr, 0, sizeof instr);
+ *     instr.code = FEDDURZAI_CODE_PUSH_R64;
+ *     instr.ops[0].kind = FEDDURZAI_REGISTER;
+ *     instr.ops[0].reg_class = FEDDURZAI_R64;
+ *     instr.ops[0].reg_number = 8;
+ *     len = feddurzai_encode(64, 0, &instr, bytes, sizeof bytes);        // 2: 41 50, push r8
+ *
+ * A memory operand needs more than kind, base and index: `scale`, which is 1 also without an index; `disp_bits` if it
+ * has a displacement (8, or the 16 or 32 of the address size; 0 encodes none); and the instruction's `asize`: the size
+ * of the base and index, or without a general register there the wanted address size, usually that of the mode. With
+ * the base RIP, `value` is the address of the operand, `disp_bits` is 32 and `asize` 64.
+ *
+ *     memset(&instr, 0, sizeof instr);
+ *     instr.code = FEDDURZAI_CODE_MOV_RM64_R64;
+ *     instr.asize = 64;
+ *     instr.ops[0].kind = FEDDURZAI_MEMORY;
+ *     instr.ops[0].reg_class = FEDDURZAI_R64;
+ *     instr.ops[0].reg_number = FEDDURZAI_SP;
+ *     instr.ops[0].scale = 1;
+ *     instr.ops[0].value = 0x10;
+ *     instr.ops[0].disp_bits = FEDDURZAI_DISP_SHORTEST;
+ *     instr.ops[1].kind = FEDDURZAI_REGISTER;
+ *     instr.ops[1].reg_class = FEDDURZAI_R64;
+ *     instr.ops[1].reg_number = FEDDURZAI_BX;
+ *     len = feddurzai_encode(64, 0, &instr, bytes, sizeof bytes);        // 5: 48 89 5c 24 10, mov qword [rsp+0x10], rbx
  */
 typedef struct feddurzai_instr {
     feddurzai_operand ops[4];
-    uint16_t code;          /* the row of the table */
-    uint8_t len;            /* how many bytes were read; no function reads it */
+    uint16_t code;          /* the row of the table, 0 to 2082 */
+    uint8_t len;            /* the number of bytes that were decoded; no function reads it */
     uint8_t lock;           /* 1 with LOCK, else 0 */
     uint8_t rep;            /* FEDDURZAI_REP, FEDDURZAI_REPNE or 0 */
-    uint8_t segment;        /* FEDDURZAI_ES .. FEDDURZAI_GS or 0 */
-    uint8_t asize;          /* 16, 32 or 64 where the instruction has a memory operand or uses an address size, else 0 */
+    uint8_t segment;        /* FEDDURZAI_ES .. FEDDURZAI_GS, or 0 */
+    uint8_t asize;          /* 16, 32 or 64 if the instruction has a memory operand or uses an address size, else 0 */
 } feddurzai_instr;
 
 /*
- * Reads the instruction at the front of `len` bytes at address `ip` (taken modulo 2 to the power of bits).
- * Returns its length, 1 to 15, or FEDDURZAI_BAD_MODE, _INVALID, _TOO_SHORT; then *instr is unchanged.
+ * Decodes the instruction at the front of `bytes` (SDM 2.1 to 2.3).
+ *
+ *  - bits: the mode, 16, 32 or 64.
+ *  - ip: the address of the first byte, taken modulo 2^bits. Near targets and operands at RIP depend on it.
+ *  - bytes, len: the code. At most the first 15 bytes matter, so `len` may be as large as the memory allows.
+ *  - instr: receives the instruction.
+ *
+ * Returns the length of the instruction, 1 to 15, or FEDDURZAI_BAD_MODE, _INVALID, _TOO_SHORT; then *instr is
+ * unchanged.
+ *
+ *     int32_t len = feddurzai_decode(64, 0x1000, (const uint8_t *)"\x48\x89\x5c\x24\x10", 5, &instr);
+ *     if (len > 0 && feddurzai_text(64, FEDDURZAI_INTEL, &instr, text, sizeof text) >= 0)
+ *         puts(text);                                                    // mov qword [rsp+0x10], rbx
  */
 int32_t feddurzai_decode(uint32_t bits, uint64_t ip, const uint8_t *bytes, size_t len, feddurzai_instr *instr);
 
-/* A part of an instruction's bytes: the offset of its first byte, and how many it has, 0 where it is not there. */
+/* A part of an instruction: the offset of its first byte from the front, and its length in bytes, 0 if it is absent. */
 typedef struct feddurzai_part {
     uint8_t at;
     uint8_t len;
 } feddurzai_part;
 
 /*
- * Where the parts of an instruction stand in its bytes, in their order. The bytes there are the part's own; numbers
- * have their lowest byte first. A part that is not there has the offset at which it would stand.
+ * The parts of an instruction in the order of its bytes (SDM 2.1, figure 2-1). Multi-byte numbers have their lowest
+ * byte first. An absent part has the offset at which it would begin.
  */
 typedef struct feddurzai_byte_offsets {
     feddurzai_part prefixes;        /* legacy prefixes and REX */
@@ -222,37 +283,53 @@ typedef struct feddurzai_byte_offsets {
     feddurzai_part opcode;
     feddurzai_part modrm;
     feddurzai_part sib;
-    feddurzai_part displacement;    /* also the absolute address of a mov of the accumulator */
-    feddurzai_part immediates[4];   /* each operand's own bytes: an immediate, the offset of a near branch, a far pointer
-                                       (its offset, then the selector), or the byte that names a vector register */
+    feddurzai_part displacement;    /* also the absolute address of a MOV of the accumulator */
+    feddurzai_part immediates[4];   /* by operand: its immediate, the offset of a near branch, a far pointer (its offset,
+                                       then the selector), or the byte that names a vector register */
 } feddurzai_byte_offsets;
 
 /*
- * Tells where the parts of the instruction at the front of `len` bytes stand. Returns its length, 1 to 15, or
- * FEDDURZAI_BAD_MODE, _INVALID, _TOO_SHORT; then *parts is unchanged.
+ * Finds the parts of the instruction at the front of `bytes`. `bits`, `bytes` and `len` are as in feddurzai_decode; no
+ * address is needed. `parts` receives the offsets.
+ *
+ * Returns the length of the instruction, 1 to 15, or FEDDURZAI_BAD_MODE, _INVALID, _TOO_SHORT; then *parts is
+ * unchanged.
+ *
+ *     len = feddurzai_offsets(64, (const uint8_t *)"\x48\x89\x5c\x24\x10", 5, &parts);
+ *     printf("displacement: %d byte at %d\n", parts.displacement.len, parts.displacement.at);    // 1 byte at 4
  */
 int32_t feddurzai_offsets(uint32_t bits, const uint8_t *bytes, size_t len, feddurzai_byte_offsets *parts);
 
-/* The codes of an item of feddurzai_decode_many at which no instruction stands: no row has them. */
+/* The `code` of an item of feddurzai_decode_many at which no instruction begins. No row has these codes. */
 enum {
-    FEDDURZAI_CODE_TOO_SHORT = 0xFFFE,  /* the bytes end before an instruction does */
-    FEDDURZAI_CODE_INVALID = 0xFFFF     /* the bytes there begin with no instruction */
+    FEDDURZAI_CODE_TOO_SHORT = 0xFFFE,  /* the bytes end before the instruction does */
+    FEDDURZAI_CODE_INVALID = 0xFFFF     /* no instruction begins with the bytes there */
 };
 
 /*
- * Reads many instructions: goes through `len` bytes, the first at address `ip`, and fills one struct after another,
- * until the bytes end or `room` structs are filled (67108864 at most in one call). *count gets how many are. Each has
- * its length in `len`; the next begins behind it. Where no instruction stands the item is a single byte: `len` 1, one
- * of the two codes above, and all else 0, which is no instruction for any other function. A caller that has more bytes
- * to come stops at the first FEDDURZAI_CODE_TOO_SHORT, and begins there again when they are there.
+ * Decodes many instructions in one call: walks through `bytes` and fills one struct after another.
  *
- * Returns how many bytes the items take: the next call begins behind these. Or FEDDURZAI_BAD_MODE; then *count is
- * unchanged.
+ *  - bits, ip: the mode, and the address of the first byte, as in feddurzai_decode.
+ *  - bytes, len: the code.
+ *  - instrs, room: receive the items. One call fills at most 67108864 structs.
+ *  - count: receives the number of structs that were filled.
+ *
+ * The call ends when the bytes or the structs do. An item's `len` is its length, and the next item begins after it.
+ * Where no instruction begins, the item is a single byte: `len` is 1, `code` one of the two above, and all else 0.
+ * Every other function refuses that struct. A caller that receives its code in pieces stops at the first
+ * FEDDURZAI_CODE_TOO_SHORT, and continues there when it has more bytes.
+ *
+ * Returns the number of bytes that the items take: the next call begins after them. Or FEDDURZAI_BAD_MODE; then *count
+ * is unchanged.
+ *
+ *     size_t count;
+ *     int32_t taken = feddurzai_decode_many(64, 0x1000, (const uint8_t *)"\x90\x06\xc3", 3, instrs, 16, &count);
+ *     // taken is 3, count is 3, and instrs[1].code is FEDDURZAI_CODE_INVALID: 06 begins no instruction of 64-bit code
  */
 int32_t feddurzai_decode_many(uint32_t bits, uint64_t ip, const uint8_t *bytes, size_t len, feddurzai_instr *instrs,
     size_t room, size_t *count);
 
-/* A style of text. */
+/* The style of a text. docs/texts.md describes the three. */
 enum {
     FEDDURZAI_INTEL = 0,    /* mov qword [rsp+0x10], rbx */
     FEDDURZAI_ATT = 1,      /* movq %rbx, 0x10(%rsp) */
@@ -260,21 +337,32 @@ enum {
 };
 
 /*
- * Writes the text of an instruction, ASCII, and a 0 behind it. A room of FEDDURZAI_MAX_TEXT is always enough.
+ * Writes the text of an instruction.
+ *
+ *  - bits: the mode. It decides which address and operand sizes the text names.
+ *  - syntax: FEDDURZAI_INTEL, FEDDURZAI_ATT or FEDDURZAI_MASM.
+ *  - instr: the instruction. Near targets and operands at RIP print as absolute addresses, also in AT&T style.
+ *  - out, room: receive the text, ASCII, with a terminating 0. FEDDURZAI_MAX_TEXT bytes are always enough.
+ *
  * Returns the length of the text without the 0, or FEDDURZAI_BAD_MODE, _BAD_SYNTAX, _BAD_INSTR, _BAD_FORM, _NO_ROOM.
+ *
+ *     len = feddurzai_text(64, FEDDURZAI_ATT, &instr, text, sizeof text);     // 21: movq %rbx, 0x10(%rsp)
  */
 int32_t feddurzai_text(uint32_t bits, uint32_t syntax, const feddurzai_instr *instr, char *out, size_t room);
 
 /*
- * Reads the instruction at the front of `len` bytes at address `ip`, and writes its text and a 0 behind it: what
- * feddurzai_decode and feddurzai_text do, faster, since no struct is read back. `instr` gets the instruction, and may
- * be NULL where it is not wanted. A room of FEDDURZAI_MAX_TEXT is always enough.
+ * Decodes an instruction and writes its text: feddurzai_decode and feddurzai_text in one call. It is faster than the
+ * two, since it does not validate a struct. The arguments are those of the two functions; `instr` may be NULL if only
+ * the text is wanted.
  *
  * Returns the length of the instruction, 1 to 15, or FEDDURZAI_BAD_MODE, _BAD_SYNTAX, _INVALID, _TOO_SHORT, _NO_ROOM;
- * then *instr is unchanged too.
+ * then *instr is unchanged.
  *
- * The library's own functions of these names (dlsym, another language) are two: feddurzai_line, which wants a struct,
- * and feddurzai_line_text, which takes none.
+ * The library itself has two functions: feddurzai_line requires a struct, and feddurzai_line_text takes none. This
+ * matters to callers that bypass the header (dlsym, another language).
+ *
+ *     len = feddurzai_line(64, FEDDURZAI_INTEL, 0x1000, (const uint8_t *)"\x74\x10", 2, NULL, text, sizeof text);
+ *     // len is 2, and text is je 0x1012
  */
 int32_t feddurzai_line(uint32_t bits, uint32_t syntax, uint64_t ip, const uint8_t *bytes, size_t len,
     feddurzai_instr *instr, char *text, size_t room);
@@ -282,107 +370,155 @@ int32_t feddurzai_line_text(uint32_t bits, uint32_t syntax, uint64_t ip, const u
     size_t room);
 
 /*
- * Writes the shortest bytes that are read as the instruction at address `ip`. A room of FEDDURZAI_MAX_LEN is always
- * enough. Returns how many bytes, or FEDDURZAI_BAD_MODE, _BAD_INSTR, a cause (FEDDURZAI_CAUSE), _NO_ROOM.
+ * Encodes an instruction: writes the shortest bytes that decode to it at address `ip`.
+ *
+ *  - bits: the mode.
+ *  - ip: the address at which the bytes will be placed, taken modulo 2^bits.
+ *  - instr: the instruction; its `len` is ignored.
+ *  - out, room: receive the bytes. FEDDURZAI_MAX_LEN bytes are always enough.
+ *
+ * Returns the number of bytes, or FEDDURZAI_BAD_MODE, _BAD_INSTR, a cause (see FEDDURZAI_CAUSE), _NO_ROOM.
+ * feddurzai_instr has two examples. docs/plain-spellings.md defines the shortest encoding.
  */
 int32_t feddurzai_encode(uint32_t bits, uint64_t ip, const feddurzai_instr *instr, uint8_t *out, size_t room);
 
 /*
- * How many bytes feddurzai_encode would write: 1 to 15, or FEDDURZAI_BAD_MODE, _BAD_INSTR, a cause (FEDDURZAI_CAUSE).
+ * Returns the number of bytes that feddurzai_encode would write, 1 to 15, or FEDDURZAI_BAD_MODE, _BAD_INSTR, a cause
+ * (see FEDDURZAI_CAUSE).
  */
 int32_t feddurzai_encoded_len(uint32_t bits, uint64_t ip, const feddurzai_instr *instr);
 
 /*
- * Writes the bytes that an Intel text of `len` bytes stands for at address `ip`. The text is as feddurzai_text writes
- * it in FEDDURZAI_INTEL, with its very spaces and without a 0 at its end: `mov qword [rsp+0x10], rbx`, `jmp 0x401000`.
- * It is the shortest encoding that feddurzai_text shows so. A room of FEDDURZAI_MAX_LEN is always enough.
+ * Assembles a text: writes the bytes that an Intel text stands for at address `ip`.
  *
- * Returns how many bytes, or FEDDURZAI_BAD_MODE, _NO_TEXT, _NO_ROOM.
+ *  - bits, ip: the mode, and the address of the bytes, as in feddurzai_encode.
+ *  - text, len: the text without a terminating 0. It must be exactly as feddurzai_text prints it in FEDDURZAI_INTEL,
+ *    with the same spaces and sizes: `mov qword [rsp+0x10], rbx`, `jmp 0x401000`. `push 5` and `jz` are refused.
+ *  - out, room: receive the bytes. FEDDURZAI_MAX_LEN bytes are always enough.
+ *
+ * If several instructions have the text, the call writes the one with the shortest encoding.
+ *
+ * Returns the number of bytes, or FEDDURZAI_BAD_MODE, _NO_TEXT, _NO_ROOM.
+ *
+ *     const char *wanted = "je 0x1010";
+ *     len = feddurzai_assemble(64, 0x1000, wanted, strlen(wanted), bytes, sizeof bytes);         // 2: 74 0e
  */
 int32_t feddurzai_assemble(uint32_t bits, uint64_t ip, const char *text, size_t len, uint8_t *out, size_t room);
 
 /*
- * Reads such a text into a struct: the instruction whose bytes feddurzai_assemble writes, with their number in `len`.
+ * Reads an Intel text into a struct: the instruction whose bytes feddurzai_assemble writes. `instr->len` receives their
+ * number.
+ *
  * Returns that number, 1 to 15, or FEDDURZAI_BAD_MODE, _NO_TEXT; then *instr is unchanged.
  */
 int32_t feddurzai_read_intel(uint32_t bits, uint64_t ip, const char *text, size_t len, feddurzai_instr *instr);
 
-/* The forms of feddurzai_jump. */
+/* The forms of feddurzai_jump. Lengths are in bytes. */
 enum {
-    FEDDURZAI_JUMP_SHORT = 1,   /* jmp, 2 bytes: the target is at most 127 bytes behind them or 128 before */
-    FEDDURZAI_JUMP_NEAR = 2,    /* jmp, 5 bytes (3 in 16-bit code): at most 2 gigabytes away */
-    FEDDURZAI_JUMP_FAR = 3,     /* 64-bit code, 14 bytes: jmp [rip], and the target in 8 bytes behind it */
+    FEDDURZAI_JUMP_SHORT = 1,   /* jmp, 2 bytes: at most 127 bytes forward or 128 back from their end */
+    FEDDURZAI_JUMP_NEAR = 2,    /* jmp, 5 bytes (3 in 16-bit code): in 64-bit code at most 2 gigabytes away */
+    FEDDURZAI_JUMP_FAR = 3,     /* 64-bit code, 14 bytes: jmp [rip], and the target in the 8 bytes that follow */
     FEDDURZAI_CALL_NEAR = 4,    /* call, 5 bytes (3 in 16-bit code) */
-    FEDDURZAI_CALL_FAR = 5      /* 64-bit code, 16 bytes: call [rip+2], a jump over the 8 bytes of the target, and these */
+    FEDDURZAI_CALL_FAR = 5      /* 64-bit code, 16 bytes: call [rip+2], a jump over 8 bytes, and the target in these */
 };
-#define FEDDURZAI_MAX_JUMP 16   /* bytes of a jump or a call, at most */
+#define FEDDURZAI_MAX_JUMP 16   /* the longest jump or call, in bytes */
 
 /*
- * Writes a jump to `target` or a call of it, of one of these forms, for the address `at`. No register is changed.
- * A room of FEDDURZAI_MAX_JUMP is always enough.
+ * Writes a jump to an address, or a call of it. The code changes no register but, for a call, the stack pointer.
  *
- * Returns how many bytes, or FEDDURZAI_BAD_MODE, _BAD_JUMP, a cause (FEDDURZAI_CAUSE_TARGET where the target is out of
- * reach or no address of the mode, FEDDURZAI_CAUSE_ROW of a far form outside 64-bit code), _NO_ROOM.
+ *  - bits: the mode.
+ *  - at: the address at which the code will be placed.
+ *  - target: the absolute address to jump to or to call.
+ *  - form: FEDDURZAI_JUMP_SHORT .. FEDDURZAI_CALL_FAR.
+ *  - out, room: receive the code. FEDDURZAI_MAX_JUMP bytes are always enough.
+ *
+ * Returns the number of bytes, or FEDDURZAI_BAD_MODE, _BAD_JUMP, a cause, _NO_ROOM. The cause is FEDDURZAI_CAUSE_TARGET
+ * if the target is out of reach or not an address of the mode, and FEDDURZAI_CAUSE_ROW for a far form outside 64-bit
+ * mode.
+ *
+ *     len = feddurzai_jump(64, 0x1000, 0x1010, FEDDURZAI_JUMP_NEAR, bytes, sizeof bytes);        // 5: e9 0b 00 00 00
  */
 int32_t feddurzai_jump(uint32_t bits, uint64_t at, uint64_t target, uint32_t form, uint8_t *out, size_t room);
 
 /*
- * Writes the text of the register of a class and a number in it, and a 0 behind it: `rax`, in AT&T style `%rax`. A room
- * of 7 is always enough. Returns the length of the text, or FEDDURZAI_BAD_SYNTAX, _NO_REGISTER, _NO_ROOM.
+ * Writes the name of a register with a terminating 0: `rax`, in AT&T style `%rax`. 7 bytes are always enough.
+ *
+ * Returns the length of the name, or FEDDURZAI_BAD_SYNTAX, _NO_REGISTER (no register has this class and number),
+ * _NO_ROOM.
  */
 int32_t feddurzai_register_text(uint32_t syntax, uint8_t reg_class, uint8_t reg_number, char *out, size_t room);
 
-/* The same of the segment register that a prefix names, FEDDURZAI_ES .. FEDDURZAI_GS: `fs`, in AT&T style `%fs`. */
+/*
+ * Writes the name of the segment register of a prefix, FEDDURZAI_ES .. FEDDURZAI_GS, with a terminating 0: `fs`, in
+ * AT&T style `%fs`. 7 bytes are always enough.
+ *
+ * Returns the length of the name, or FEDDURZAI_BAD_SYNTAX, _NO_REGISTER (no prefix has this number), _NO_ROOM.
+ */
 int32_t feddurzai_segment_text(uint32_t syntax, uint8_t segment, char *out, size_t room);
 
 /* ---- what an instruction does ------------------------------------------------------------------------------ */
 
-/* Where control goes. */
+/* Where control goes after an instruction. */
 enum {
     FEDDURZAI_FLOW_NEXT = 0,            /* to the next instruction */
-    FEDDURZAI_FLOW_JUMP = 1,            /* to a target that the instruction holds */
+    FEDDURZAI_FLOW_JUMP = 1,            /* to a target in the instruction */
     FEDDURZAI_FLOW_INDIRECT_JUMP = 2,   /* to a target in a register or in memory */
-    FEDDURZAI_FLOW_CONDITIONAL = 3,     /* to a target that it holds, or to the next instruction */
-    FEDDURZAI_FLOW_RETURN = 4,
-    FEDDURZAI_FLOW_CALL = 5,            /* to a procedure, and later to the next instruction */
-    FEDDURZAI_FLOW_INDIRECT_CALL = 6,   /* the same with a target in a register or in memory */
-    FEDDURZAI_FLOW_INTERRUPT = 7,
+    FEDDURZAI_FLOW_CONDITIONAL = 3,     /* to a target in the instruction, or to the next instruction */
+    FEDDURZAI_FLOW_RETURN = 4,          /* RET, RETF, IRET, SYSRET, SYSEXIT */
+    FEDDURZAI_FLOW_CALL = 5,            /* to a procedure, and later to the next instruction: CALL, SYSCALL, SYSENTER */
+    FEDDURZAI_FLOW_INDIRECT_CALL = 6,   /* the same, with a target in a register or in memory */
+    FEDDURZAI_FLOW_INTERRUPT = 7,       /* INT, INT1, INT3, INTO */
     FEDDURZAI_FLOW_EXCEPTION = 8        /* UD1, UD2 */
 };
 
-/* What is done to the whole of an operand or register; a write of a part is a read and a write. */
+/* How an instruction accesses the whole of an operand or register. A write of a part counts as a read and a write. */
 enum { FEDDURZAI_ACCESS_NONE = 0, FEDDURZAI_READ = 1, FEDDURZAI_WRITE = 2, FEDDURZAI_READ_WRITE = 3 };
 
+/* A register, and how it is accessed. */
 typedef struct feddurzai_use {
-    uint8_t reg_class;
+    uint8_t reg_class;      /* FEDDURZAI_LOW8 .. */
     uint8_t reg_number;
-    uint8_t access;
+    uint8_t access;         /* FEDDURZAI_READ ..; in feddurzai_touched also FEDDURZAI_MAY_READ .. */
 } feddurzai_use;
 
+/* What feddurzai_info reports of an instruction. */
 typedef struct feddurzai_about {
-    uint64_t target;            /* of a near branch, else 0 */
-    uint64_t ip_address;        /* of the memory operand at RIP or EIP, else 0 */
-    uint8_t has_target;         /* 1 where there is such a target */
-    uint8_t has_ip_address;     /* 1 where there is such an operand */
+    uint64_t target;            /* the target of a near branch, else 0 */
+    uint64_t ip_address;        /* the address of the memory operand at RIP or EIP, else 0 */
+    uint8_t has_target;         /* 1 if there is such a target, else 0 */
+    uint8_t has_ip_address;     /* 1 if there is such an operand, else 0 */
     uint8_t flow;               /* FEDDURZAI_FLOW_NEXT .. */
-    uint8_t memory_size;        /* of the memory operand: 0 to 32; 0 without one, or where it has no size */
-    uint8_t access[4];          /* to each operand */
-    uint8_t use_count;          /* how many registers are named, at most 8 */
-    feddurzai_use uses[8];      /* those, operand by operand; of an address base and index, as read; then zeros */
+    uint8_t memory_size;        /* bytes of the memory operand, 0 to 32; 0 without one, or if it has no size */
+    uint8_t access[4];          /* how each operand is accessed: FEDDURZAI_ACCESS_NONE .. */
+    uint8_t use_count;          /* the number of entries of `uses`, at most 8 */
+    feddurzai_use uses[8];      /* registers by operand; base and index of an address count as read; then zeros */
 } feddurzai_about;
 
-/* Tells what an instruction does. Returns 0, or FEDDURZAI_BAD_INSTR, _BAD_FORM. */
+/*
+ * Reports control flow, operand access, memory size and named registers of an instruction (SDM chapters 3 to 5).
+ * feddurzai_effects also reports implied registers and memory, and flags.
+ *
+ * Returns 0, or FEDDURZAI_BAD_INSTR, _BAD_FORM; then *about is unchanged.
+ *
+ *     feddurzai_decode(64, 0x1000, (const uint8_t *)"\x74\x10", 2, &instr);       // je 0x1012
+ *     if (feddurzai_info(&instr, &about) == 0 && about.flow == FEDDURZAI_FLOW_CONDITIONAL)
+ *         printf("branches to %" PRIx64 "\n", about.target);                      // 1012
+ */
 int32_t feddurzai_info(const feddurzai_instr *instr, feddurzai_about *about);
 
 /* ---- what an instruction touches --------------------------------------------------------------------------- */
 
 /*
- * What is done to a register or to memory that is touched: the bits FEDDURZAI_READ and FEDDURZAI_WRITE, and these two,
- * for what a condition, a mask, or a repeat prefix with a counter of 0 may prevent. One of 1, 2, 3, 4, 8, 12 and 9.
+ * How a register or memory is accessed, in feddurzai_touched: the bits FEDDURZAI_READ and FEDDURZAI_WRITE, and these
+ * two for an access that a condition, a mask, or a repeat prefix with a counter of 0 may suppress. The value is 1, 2,
+ * 3, 4, 8, 12 or 9.
  */
 enum { FEDDURZAI_MAY_READ = 4, FEDDURZAI_MAY_WRITE = 8 };
 
-/* Flags: those of EFLAGS at their bits there, and the condition bits of the x87 status word at theirs and 16 more. */
+/*
+ * Flags. Those of EFLAGS have their bits of that register (SDM volume 1, 3.4.3). The condition codes C0 to C3 of the
+ * x87 status word have their bits of that word, plus 16 (SDM volume 1, 8.1.3).
+ */
 enum {
     FEDDURZAI_FLAG_CF = 0x1, FEDDURZAI_FLAG_PF = 0x4, FEDDURZAI_FLAG_AF = 0x10, FEDDURZAI_FLAG_ZF = 0x40,
     FEDDURZAI_FLAG_SF = 0x80, FEDDURZAI_FLAG_TF = 0x100, FEDDURZAI_FLAG_IF = 0x200, FEDDURZAI_FLAG_DF = 0x400,
@@ -393,7 +529,7 @@ enum {
     FEDDURZAI_FLAG_C3 = 0x40000000
 };
 
-/* CPUID features, by their bits in a set: `features >> FEDDURZAI_FEATURE_AVX2 & 1`. */
+/* CPUID features, as bit numbers of a set (SDM, CPUID): `features >> FEDDURZAI_FEATURE_AVX2 & 1` tests one. */
 enum {
     FEDDURZAI_FEATURE_FPU = 0, FEDDURZAI_FEATURE_TSC = 1, FEDDURZAI_FEATURE_MSR = 2, FEDDURZAI_FEATURE_CX8 = 3,
     FEDDURZAI_FEATURE_SEP = 4, FEDDURZAI_FEATURE_CMOV = 5, FEDDURZAI_FEATURE_CLFSH = 6, FEDDURZAI_FEATURE_MMX = 7,
@@ -409,19 +545,21 @@ enum {
     FEDDURZAI_FEATURE_LZCNT = 37, FEDDURZAI_FEATURE_PREFETCHW = 38, FEDDURZAI_FEATURE_SYSCALL = 39,
     FEDDURZAI_FEATURE_RDTSCP = 40
 };
-#define FEDDURZAI_FEATURES 41   /* how many there are */
+#define FEDDURZAI_FEATURES 41   /* the number of features */
 
 #define FEDDURZAI_MAX_MEMORY_USES 4
 #define FEDDURZAI_MAX_REGISTER_USES 32
 
 /*
- * Memory that is touched. The registers count with the values that they have before the instruction; only POP to memory
- * at rSP takes the value behind its own increment. With an index of class FEDDURZAI_LOW8 (XLAT) that register is added.
+ * Memory that an instruction accesses: segment:[base + index * scale + displacement].
+ *
+ * The registers have the values that they hold before the instruction, with one exception: POP to memory at rSP uses
+ * the incremented rSP. With an index of class FEDDURZAI_LOW8 (XLAT) that register is zero-extended and added.
  */
 typedef struct feddurzai_memory_use {
-    uint64_t displacement;  /* cut to the address size; with the base RIP or EIP the absolute address */
-    uint16_t size;          /* how many bytes; 0 where the processor's state decides (XSAVE, XRSTOR) */
-    uint8_t segment;        /* FEDDURZAI_ES .. FEDDURZAI_GS: the segment that counts, by a prefix or by default */
+    uint64_t displacement;  /* truncated to the address size; with the base RIP or EIP the absolute address */
+    uint16_t size;          /* in bytes; 0 if the processor's state decides (XSAVE, XRSTOR) */
+    uint8_t segment;        /* FEDDURZAI_ES .. FEDDURZAI_GS: the segment of a prefix, else the default */
     uint8_t base_class;     /* FEDDURZAI_NO_REG without a base */
     uint8_t base_number;
     uint8_t index_class;    /* FEDDURZAI_NO_REG without an index; a vector register in a gather */
@@ -430,82 +568,151 @@ typedef struct feddurzai_memory_use {
     uint8_t access;         /* FEDDURZAI_READ .. */
 } feddurzai_memory_use;
 
-/* What an instruction touches, named by its operands or implied. */
+/*
+ * What an instruction touches, whether an operand names it or the instruction implies it. Flags that are in neither
+ * flags_written nor flags_undefined keep their values.
+ */
 typedef struct feddurzai_touched {
-    uint64_t features;          /* the CPUID features that it needs, all of them: bits by FEDDURZAI_FEATURE_FPU .. */
-    uint32_t flags_read;        /* flags that what it does depends on */
-    uint32_t flags_written;     /* flags that it gives a value; those in neither this nor flags_undefined stay */
-    uint32_t flags_cleared;     /* those of flags_written that become 0 */
-    uint32_t flags_set;         /* those of flags_written that become 1 */
-    uint32_t flags_undefined;   /* flags that the manual leaves undefined behind it; none of flags_written */
-    uint32_t flags_kept;        /* those of flags_written and flags_undefined that it may leave: by a count of 0 .. */
-    feddurzai_memory_use memory[FEDDURZAI_MAX_MEMORY_USES];     /* the memory operand, what is implied; then zeros */
-    feddurzai_use registers[FEDDURZAI_MAX_REGISTER_USES];       /* named, segments, implied, a counter; then zeros */
-    uint8_t memory_count;       /* how many entries of memory there are */
-    uint8_t register_count;     /* how many entries of registers */
+    uint64_t features;          /* the CPUID features that it needs, all of them, by FEDDURZAI_FEATURE_FPU .. */
+    uint32_t flags_read;        /* flags that its behaviour depends on */
+    uint32_t flags_written;     /* flags that it gives a defined value */
+    uint32_t flags_cleared;     /* the flags of flags_written that become 0 */
+    uint32_t flags_set;         /* the flags of flags_written that become 1 */
+    uint32_t flags_undefined;   /* flags that the manual leaves undefined; none is in flags_written */
+    uint32_t flags_kept;        /* the flags of these two sets that it may keep, as a shift by a count of 0 does */
+    feddurzai_memory_use memory[FEDDURZAI_MAX_MEMORY_USES];     /* the memory operand, then implied memory; then zeros */
+    feddurzai_use registers[FEDDURZAI_MAX_REGISTER_USES];       /* named, segment, implied, counter; then zeros */
+    uint8_t memory_count;       /* the number of entries of memory */
+    uint8_t register_count;     /* the number of entries of registers */
 } feddurzai_touched;
 
 /*
- * Tells what an instruction touches in a mode. Of registers those stand first that feddurzai_info names, then the
- * segment registers that memory is read through (in 64-bit code FS and GS alone), then those that no operand names, as
- * RSP of a push, and last the counter of a repeat prefix. A register may stand there twice. The size of an implied
- * register or address goes by the operand size, the address size or the mode. Registers that the library has no name
- * for are left out: MXCSR, the x87 control and tag words, descriptor tables, RIP as the place of control.
+ * Reports the registers, memory, flags and CPUID features of an instruction, named and implied (SDM chapters 3 to 5).
  *
- * Returns 0, or FEDDURZAI_BAD_MODE, _BAD_INSTR, _BAD_FORM; then *touched is unchanged.
+ *  - bits: the mode. It decides the size of implied registers and addresses, with the operand and address size.
+ *  - instr: the instruction.
+ *  - touched: receives the report.
+ *
+ * `registers` has the registers that feddurzai_info reports; then the segment registers through which memory is
+ * accessed, in 64-bit mode FS and GS alone; then implied registers, such as RSP of a push; and last the counter of a
+ * repeat prefix. A register may have several entries. Registers that this header cannot name are left out: MXCSR, the
+ * x87 control and tag words, descriptor tables, and RIP as the instruction pointer.
+ *
+ * Returns 0, or FEDDURZAI_BAD_MODE, _BAD_INSTR, _BAD_FORM; then *touched is unchanged. docs/instruction-info.md says
+ * more.
+ *
+ *     feddurzai_decode(64, 0, (const uint8_t *)"\x53", 1, &instr);                // push rbx
+ *     if (feddurzai_effects(64, &instr, &touched) == 0)
+ *         printf("%d registers, %d bytes of memory\n", touched.register_count, touched.memory[0].size);
+ *     // 2 registers: RBX is read, RSP is read and written. 8 bytes at ss:[rsp-8] are written
  */
 int32_t feddurzai_effects(uint32_t bits, const feddurzai_instr *instr, feddurzai_touched *touched);
 
 /*
- * The widest register that holds the register of a class and a number: RAX of AL, AH, AX and EAX, YMM1 of XMM1, RIP of
- * EIP, and of any other the register itself. Uses of two registers touch one place where these are one number.
+ * Returns the widest register that contains a register: RAX for AL, AH, AX and EAX, YMM1 for XMM1, RIP for EIP, and any
+ * other register itself (SDM volume 1, 3.4.1.1 and 14.1.1). Two uses overlap if their widest registers are equal.
  *
- * Returns its class and number together, 0 or more, or FEDDURZAI_NO_REGISTER.
+ * One overlap is not reported: MMX registers are aliases of the x87 data registers (SDM volume 1, 9.2.2). MM0 to MM7
+ * are the low 64 bits of the physical registers R0 to R7, and ST(i) is the physical register (TOP + i) modulo 8. The
+ * answer for MMn is MMn, because TOP is known only at run time. A caller that tracks both has to treat every MMn and
+ * every ST(i) as overlapping.
+ *
+ * Returns 0 or more, the class and number together (FEDDURZAI_FULL_CLASS, FEDDURZAI_FULL_NUMBER), or
+ * FEDDURZAI_NO_REGISTER.
+ *
+ *     int32_t full = feddurzai_full_register(FEDDURZAI_HIGH8, 0);                 // AH
+ *     if (full >= 0)
+ *         feddurzai_register_text(FEDDURZAI_INTEL, (uint8_t)FEDDURZAI_FULL_CLASS(full), FEDDURZAI_FULL_NUMBER(full), text, 7);
+ *     // text is rax
  */
 int32_t feddurzai_full_register(uint8_t reg_class, uint8_t reg_number);
 #define FEDDURZAI_FULL_CLASS(said) ((said) >> 8)
 #define FEDDURZAI_FULL_NUMBER(said) ((said) & 255)
 
 /*
- * Writes the name of the CPUID feature of a bit, FEDDURZAI_FEATURE_FPU .., as `AVX2`, and a 0 behind it. A room of 11 is
- * always enough. Returns the length of the name, or FEDDURZAI_NO_NAME, _NO_ROOM.
+ * Writes the name of a CPUID feature with a terminating 0: `AVX2`. `bit` is FEDDURZAI_FEATURE_FPU .. 11 bytes are
+ * always enough.
+ *
+ * Returns the length of the name, or FEDDURZAI_NO_NAME (`bit` is FEDDURZAI_FEATURES or more), _NO_ROOM.
  */
 int32_t feddurzai_feature_name(uint32_t bit, char *out, size_t room);
 
 /* ---- the table --------------------------------------------------------------------------------------------- */
 
 /*
- * Writes the name of a row, a mnemonic in lower case, and a 0 behind it. A room of 17 is always enough.
+ * Writes the name of a row with a terminating 0: its mnemonic in lower case. 17 bytes are always enough.
+ *
  * Returns the length of the name, or FEDDURZAI_BAD_CODE, _NO_ROOM.
  */
 int32_t feddurzai_name(uint32_t code, char *out, size_t room);
 
-/* The same of its notation, as `REX.W + 81 /0 id`. A room of 65 is always enough. */
+/*
+ * Writes the notation of a row with a terminating 0: `REX.W + 81 /0 id` (SDM 3.1.1.1). 65 bytes are always enough.
+ *
+ * Returns the length of the notation, or FEDDURZAI_BAD_CODE, _NO_ROOM.
+ */
 int32_t feddurzai_notation(uint32_t code, char *out, size_t room);
 
 /*
- * Tells operand `index` of a row, 0 to 3. Writes the word of its kind and a 0 behind it, and sets *access to what is
- * done to the operand, FEDDURZAI_ACCESS_NONE, _READ, _WRITE or _READ_WRITE, as feddurzai_info has it. The word is that
- * of Intel SDM volume 2, A.2, as `Eb` or `Gv`: how the operand is addressed and of what type it is. Beside those of the
- * manual, Z is a register by the opcode and gx, gv are the addresses of a gather; a fixed register has its name, as
- * `AL` or `rAX`. An operand that the row does not have has the empty word and no access. A room of 6 is always enough.
+ * Reports an operand of a row: the code word of its kind, and its access.
  *
- * Returns the length of the word, 0 for an operand that the row does not have, or FEDDURZAI_BAD_CODE, _NO_NAME (the
- * index is above 3), _NO_ROOM; then *access and the room are unchanged.
+ *  - code: the row, 0 to 2082.
+ *  - index: the operand, 0 to 3.
+ *  - access: receives FEDDURZAI_ACCESS_NONE, _READ, _WRITE or _READ_WRITE, as in feddurzai_info.
+ *  - kind, room: receive the word with a terminating 0. 6 bytes are always enough. An operand that the row does not
+ *    have has an empty word and no access.
+ *
+ * The words follow SDM appendix A.2: an upper-case letter for the addressing method and lower-case letters for the
+ * operand type, as in `Eb` or `Gv`. The type y is 64 bits if W is 1, else 32. A fixed register has its name: AL, CL,
+ * DX, ES, XMM0; rAX is the accumulator of the operand size. These words are not in A.2, or have another meaning there:
+ *
+ *  - Zb, Zv: a general register of 8 bits or of the operand size, selected by the low three bits of the opcode.
+ *  - Rm: a general register selected by ModR/M.r/m regardless of mod, of 64 bits in 64-bit mode and else 32 (MOV with
+ *    CR or DR).
+ *  - Xv: a register of the operand size, or 16 bits of memory (LAR, LSL, SLDT, STR, SMSW, MOV from a segment register).
+ *    In A.2 the letter X is memory at DS:rSI.
+ *  - Kb, Kw: a 32-bit register, or 8 or 16 bits of memory (PEXTRB, PINSRB, PEXTRW, PINSRW).
+ *  - Ibs: an immediate of 8 bits, sign-extended to the operand size. Ib is not extended.
+ *  - Mf: a far pointer in memory through which CALLF or JMPF goes. Mp is one that LDS, LES, LFS, LGS or LSS loads.
+ *  - Mt, Mo: 10 or 16 bytes of memory.
+ *  - Vo, Ho: an XMM register, even if the vector size is 32 bytes. Wo: such a register, or 16 bytes of memory.
+ *  - Wb, Ww, Wd, Wq: an XMM register, or 1, 2, 4 or 8 bytes of memory.
+ *  - Wh, W4, W8: an XMM register, or memory of a half, a quarter or an eighth of the vector size (VPMOVSXBW, VPMOVSXBD,
+ *    VPMOVSXBQ).
+ *  - gx, gv: the address of a gather, whose index is an XMM register, or a register of the vector size (SDM 2.3.12).
+ *  - eAX: AX or EAX, by the operand size. 1: the constant 1. ST, ST(i): the top of the x87 stack, and the register that
+ *    ModR/M.r/m selects.
+ *
+ * Returns the length of the word, 0 for an operand that the row does not have, or FEDDURZAI_BAD_CODE, _NO_NAME (`index`
+ * is above 3), _NO_ROOM; then *access and the buffer are unchanged.
+ *
+ *     len = feddurzai_row_operand(FEDDURZAI_CODE_MOV_RM64_R64, 0, &access, text, sizeof text);
+ *     // len is 2, text is Ev, and access is FEDDURZAI_WRITE
  */
 int32_t feddurzai_row_operand(uint32_t code, uint32_t index, uint8_t *access, char *kind, size_t room);
 
 /*
- * The code of the n-th row of a name of `len` bytes, from 0, in the order of the codes. Returns FEDDURZAI_NO_NAME
- * where the name has no more than n rows.
+ * Finds a row by name: returns the code of the n-th row of the name, counted from 0 in the order of the codes.
+ *
+ *  - name, len: the mnemonic in lower case, without a terminating 0.
+ *  - n: which of its rows.
+ *
+ * Returns the code, 0 to 2082, or FEDDURZAI_NO_NAME if the name has no more than n rows.
+ *
+ * The call searches the table, so look a code up once and keep it. To list the rows of a name:
+ *
+ *     for (n = 0; (code = feddurzai_code_of("leave", 5, n)) >= 0; n++)
+ *         if (feddurzai_notation((uint32_t)code, text, sizeof text) >= 0)
+ *             puts(text);                                                // o16 C9, o32 C9, o64 C9
  */
 int32_t feddurzai_code_of(const char *name, size_t len, size_t n);
 
 /*
- * The codes of common instructions, for a struct's `code`. feddurzai_code_of finds all others; it looks through the
- * table, so a program asks it once. RM is a register or memory, REL an offset, IMM an immediate, and the number its
- * bits. JMP, CALL, Jcc, RET, PUSH, POP and LEAVE are those of 64-bit code, but where _O32, R32 or RM32 says that they
- * are of 32-bit code; NOP_RM32 and what has two operands are of both, with a 64 of 64-bit code alone.
+ * The codes of common instructions, for the `code` of a struct; feddurzai_code_of finds the others.
+ *
+ * In the names RM is a register or memory, REL an offset and IMM an immediate, and a number is a width in bits. JMP,
+ * CALL, Jcc, RET, PUSH, POP and LEAVE are of 64-bit code, unless _O32, R32 or RM32 marks them as 32-bit code. NOP_RM32
+ * and rows with two operands exist in both modes, and those with a 64 in 64-bit mode alone.
  */
 /* begin of the codes that codes.py writes */
 enum {
@@ -691,114 +898,136 @@ enum {
 };
 /* end of the codes that codes.py writes */
 
-/* ---- code -------------------------------------------------------------------------------------------------- */
+/* ---- moving code ------------------------------------------------------------------------------------------- */
 
-#define FEDDURZAI_MAX_CODE 1048576u     /* bytes of code that are moved or followed together, at most */
-#define FEDDURZAI_MAX_FLOW 16777216u    /* bytes of code that are followed from several first offsets, at most */
-#define FEDDURZAI_MAX_MOVED 65536u      /* instructions that are moved together, at most */
+#define FEDDURZAI_MAX_CODE 1048576u     /* the most bytes that one call moves, hooks or follows */
+#define FEDDURZAI_MAX_FLOW 16777216u    /* the most bytes that feddurzai_flow_from follows */
+#define FEDDURZAI_MAX_MOVED 65536u      /* the most instructions that one call moves */
 
-/* How the image of an instruction is made. */
+/* The form of a moved instruction. docs/moving.md lists the bytes of each form. */
 enum {
-    FEDDURZAI_ITSELF = 0,       /* the instruction, its operands aimed at what they were aimed at */
+    FEDDURZAI_ITSELF = 0,       /* the instruction, with its targets adjusted */
     FEDDURZAI_SHORT = 1,        /* a branch with an offset of 8 bits */
-    FEDDURZAI_NEAR_FORM = 2,    /* with an offset of 32 bits (16 in 16-bit code) */
-    FEDDURZAI_FAR_FORM = 3,     /* through a slot of 8 bytes behind the code, in 64-bit mode */
-    FEDDURZAI_BRIDGE = 4,       /* a short branch over a near jump, as for LOOP and JRCXZ */
-    FEDDURZAI_FAR_BRIDGE = 5    /* the same through a slot */
+    FEDDURZAI_NEAR_FORM = 2,    /* a branch with an offset of 32 bits (16 in 16-bit code) */
+    FEDDURZAI_FAR_FORM = 3,     /* 64-bit mode: a branch through a slot of 8 bytes after the code */
+    FEDDURZAI_BRIDGE = 4,       /* a short branch to a near jump, for LOOP, LOOPE, LOOPNE and JRCXZ */
+    FEDDURZAI_FAR_BRIDGE = 5    /* 64-bit mode: a short branch to a jump through a slot */
 };
 
-/* Where an instruction was, and where its image is. */
+/* The old and the new address of a moved instruction. */
 typedef struct feddurzai_moved {
     uint64_t old_ip;
     uint64_t new_ip;
-    uint8_t len;        /* how many bytes it had */
+    uint8_t len;        /* its old length, in bytes */
     uint8_t form;       /* FEDDURZAI_ITSELF .. */
 } feddurzai_moved;
 
-/* The numbers of a moving. */
+/* What feddurzai_move and feddurzai_move_outside report. Fields that do not apply are 0. */
 typedef struct feddurzai_move_report {
-    uint64_t bytes;     /* how many bytes the moved code has, with its slots */
-    uint64_t count;     /* how many instructions */
+    uint64_t bytes;     /* the size of the moved code with its slots */
+    uint64_t count;     /* the number of instructions */
     uint64_t at;        /* _INVALID, _TOO_SHORT: the offset of the byte; _TOO_FAR: the number of the instruction, from 0 */
-    uint64_t address;   /* _TOO_FAR: its target; _WRAPS: the end of the code, modulo 2 to the power of 64 */
-    uint64_t code_bytes;    /* how many bytes the code has without its slots: control goes on behind it there */
-    uint64_t slots_at;      /* the offset of the first slot; `bytes` where there is none */
+    uint64_t address;   /* _TOO_FAR: its target; _WRAPS: the end of the code, modulo 2^64 */
+    uint64_t code_bytes;    /* the size of the moved code without its slots: control continues at this offset */
+    uint64_t slots_at;      /* the offset of the first slot, or `bytes` if there are none */
 } feddurzai_move_report;
 
 /*
- * Moves `len` bytes of code from address `old_ip` to address `new_ip`: every near branch and every operand at RIP or
- * EIP still reaches what it reached, or follows it where that is moved too, in the least layout. Writes the moved bytes
- * to `out`, and to `map` an entry for each instruction. The report says how many of both there are, also where a room
- * is too small: so a first call with no rooms tells how much is needed.
+ * Moves code to another address. Near branches and operands at RIP or EIP keep their targets, and a target that is
+ * itself moved is followed to its new address. Branches grow as far as the least closed layout requires
+ * (docs/moving.md).
  *
- * Control leaves the last instruction of the moved code at out + report->code_bytes. A jump back goes there, before the
- * slots: behind them (out + report->bytes) it is never reached. There is place for it where there are no slots, that is
- * where code_bytes == bytes, as it is within 2 gigabytes; else choose a nearer address.
+ *  - bits: the mode.
+ *  - old_ip, bytes, len: the code and the address of its first byte; at most FEDDURZAI_MAX_CODE bytes. The bytes must
+ *    be instructions from end to end, and nothing outside may jump into the middle of one.
+ *  - new_ip: the new address of the first byte.
+ *  - out, room: receive the moved bytes.
+ *  - map, map_room: receive an entry for each instruction, in order.
+ *  - report: receives the sizes, also if a buffer is too small. A first call with two buffers of 0 elements reports the
+ *    sizes that the second needs.
  *
- * A target that is the start of an instruction of the code follows it, also where that is the very first: a branch back
- * to the start of what is moved goes to the moved start. So a recursive call of a function whose start is moved goes
- * past what is written there, and a loop of one instruction stays a loop at the new address. And a jump to the end of
- * the code that is appended to the code aims at itself. feddurzai_move_outside keeps every target instead.
+ * Control leaves the last instruction at out + report->code_bytes. Put a jump back there, and not at out +
+ * report->bytes: that is after the slots, where it is never reached. There is space for it if code_bytes == bytes, that
+ * is if there are no slots. There are none if all targets are within 2 gigabytes; otherwise choose a nearer address.
  *
- * Returns 0, or FEDDURZAI_BAD_MODE, _TOO_LARGE, _WRAPS (the old end), _INVALID or _TOO_SHORT, _TOO_MANY (the report's
- * count says how many), _WRAPS (the new end), _TOO_FAR, _NO_ROOM; _NO_MEMORY may stand in place of what comes behind
- * the first _WRAPS. The bytes may be moved only where nothing jumps into the middle of an instruction; a target that
- * is no start of an instruction of the code stays where it was. No bytes are moved to no bytes: both ends are `new_ip`.
+ * A target that is the start of a moved instruction is followed, even if it is the first one. So a recursive call of a
+ * function whose start is moved bypasses whatever is written over the start, a loop of one instruction stays a loop at
+ * the new address, and a jump to the end of the code that is appended to the code targets itself.
+ * feddurzai_move_outside keeps every target instead. A target in the middle of an instruction stays where it was.
+ *
+ * Returns 0, or FEDDURZAI_BAD_MODE, _TOO_LARGE, _WRAPS (the old end), _INVALID or _TOO_SHORT, _TOO_MANY (report->count
+ * says how many), _WRAPS (the new end), _TOO_FAR, _NO_ROOM. _NO_MEMORY may replace any of those after the first _WRAPS.
+ * If `len` is 0, both ends are `new_ip`. The call allocates memory.
+ *
+ *     // je 0x1012, moved out of reach: jne over jmp [rip], and the slot with the target
+ *     said = feddurzai_move(64, 0x1000, (const uint8_t *)"\x74\x10", 2, 0x7fff00000000, out, 64, map, 4, &report);
+ *     // said is 0, report.bytes is 16, report.code_bytes is 8, and map[0].form is FEDDURZAI_FAR_FORM
  */
 int32_t feddurzai_move(uint32_t bits, uint64_t old_ip, const uint8_t *bytes, size_t len, uint64_t new_ip, uint8_t *out,
     size_t room, feddurzai_moved *map, size_t map_room, feddurzai_move_report *report);
 
 /*
- * Moves code as feddurzai_move does, with its answer, report and refusals, and keeps every target: what a branch or an
- * operand at RIP or EIP reached it still reaches, also where that is among the moved instructions. So an instruction
- * that is moved by itself does there what it did, as single stepping elsewhere needs; and a jump to the old end that is
- * put behind some code is a jump back.
+ * Moves code and keeps every target: a branch or an operand at RIP or EIP still reaches its old target, even if that is
+ * one of the moved instructions. Arguments, report, return value and refusals are those of feddurzai_move.
+ *
+ * Use it for a single instruction, which then behaves as it did at its old address, and for code with a jump to its old
+ * end appended, which is then a jump back.
+ *
+ *     // a loop of one instruction goes back to its old address
+ *     said = feddurzai_move_outside(64, 0x1000, (const uint8_t *)"\xeb\xfe", 2, 0x1080, out, 64, map, 4, &report);
+ *     // said is 0, and out begins with e9 7b ff ff ff, jmp 0x1000
  */
 int32_t feddurzai_move_outside(uint32_t bits, uint64_t old_ip, const uint8_t *bytes, size_t len, uint64_t new_ip,
     uint8_t *out, size_t room, feddurzai_moved *map, size_t map_room, feddurzai_move_report *report);
 
-/* A block of code that is moved with others. */
+/* A block of code that feddurzai_move_blocks moves. */
 typedef struct feddurzai_block {
     uint64_t old_ip;    /* the address of its first byte */
-    uint64_t new_ip;    /* the address that this byte moves to */
-    uint64_t offset;    /* where it stands in the bytes that are given */
-    uint64_t len;       /* how many bytes the block has */
+    uint64_t new_ip;    /* the new address of its first byte */
+    uint64_t offset;    /* its offset in the given bytes */
+    uint64_t len;       /* its size in bytes */
 } feddurzai_block;
 
-/* Where a moved block is in `out`: from the end of the one before, or from the start. */
+/* Where a moved block is in `out`. It begins where the one before it ends; the first begins at 0. */
 typedef struct feddurzai_placed_block {
-    uint64_t end;           /* the offset in `out` behind its last byte */
-    uint64_t code_bytes;    /* how many bytes it has without its slots: control goes on behind it there */
-    uint64_t count;         /* how many instructions: so many entries of the map, behind those of the block before */
+    uint64_t end;           /* the offset in `out` of its end */
+    uint64_t code_bytes;    /* its size without its slots: control continues at this offset of the block */
+    uint64_t count;         /* the number of its instructions: as many map entries follow those of the block before */
 } feddurzai_placed_block;
 
-/* The numbers of a moving of blocks. */
+/* What feddurzai_move_blocks reports. Fields that do not apply are 0. */
 typedef struct feddurzai_blocks_report {
-    uint64_t bytes;     /* how many bytes the moved blocks have together, with their slots */
-    uint64_t count;     /* how many instructions */
-    uint64_t block;     /* the number of the block that fails, from 0; where none is told, how many there are */
+    uint64_t bytes;     /* the size of all moved blocks with their slots */
+    uint64_t count;     /* the number of instructions */
+    uint64_t block;     /* the number of the block that fails, from 0; the number of blocks if none is to blame */
     uint64_t at;        /* _INVALID, _TOO_SHORT: the offset of the byte in this block; _TOO_FAR: the number of the
                            instruction in this block, from 0 */
-    uint64_t address;   /* _TOO_FAR: its target; _WRAPS: the end of the block, modulo 2 to the power of 64 */
+    uint64_t address;   /* _TOO_FAR: its target; _WRAPS: the end of the block, modulo 2^64 */
 } feddurzai_blocks_report;
 
 /*
  * Moves several blocks of code at once, each to an address of its own: the parts of a function (.text and .text.cold),
- * or functions that call each other. What a branch or an operand at RIP or EIP reached it still reaches, or follows
- * where that is the start of an instruction of any of the blocks: of the same block, else of the first that has one.
+ * or functions that call each other. Targets are kept as in feddurzai_move. A target is followed if it is the start of
+ * an instruction of the same block, else of the first block that has one there.
  *
- * The bytes of block b are the blocks[b].len ones from blocks[b].offset on of `len` bytes; so a whole section may be
- * given, and blocks in it. The moved blocks are written to `out` one behind another, each with its slots, and belong to
- * their new addresses one by one. `places` says where each ends there, and `map` has an entry for each instruction, block
- * by block. What feddurzai_move says of a jump back and of a target that follows holds here of each block.
+ *  - bits: the mode.
+ *  - bytes, len: the bytes that contain all blocks, such as a whole section.
+ *  - blocks, count: the blocks. Block b is the blocks[b].len bytes at offset blocks[b].offset; FEDDURZAI_MAX_CODE in
+ *    all of them.
+ *  - out, room: receive the moved blocks, one after another, each with its slots. Each belongs at its own new address.
+ *  - places, places_room: receive the end of each block in `out`. There are as many places as blocks.
+ *  - map, map_room: receive an entry for each instruction, block by block.
+ *  - report: receives the sizes, also if a buffer is too small. A first call with three buffers of 0 elements reports
+ *    the sizes that the second needs.
  *
- * The report says how many bytes and instructions there are, also where a room is too small: so a first call with no
- * rooms tells how much is needed. There are as many places as blocks.
+ * What feddurzai_move says of a jump back, of targets that are followed, and of the code that may be moved applies to
+ * each block.
  *
- * Returns 0, or FEDDURZAI_BAD_MODE; _TOO_LARGE (more than FEDDURZAI_MAX_MOVED blocks, or FEDDURZAI_MAX_CODE bytes in all
- * of them); of the first block that is not read, with its number, _BAD_BLOCK, _WRAPS (its old end), _INVALID or _TOO_SHORT;
- * _TOO_MANY (the report's count says how many instructions); _WRAPS (a new end; the report's block is then the number of
- * blocks); _TOO_FAR; _NO_ROOM. _NO_MEMORY may stand in place of those behind _TOO_LARGE.
+ * Returns 0, or FEDDURZAI_BAD_MODE; _TOO_LARGE (more than FEDDURZAI_MAX_MOVED blocks, or more than FEDDURZAI_MAX_CODE
+ * bytes in all of them); for the first block that cannot be read, with its number, _BAD_BLOCK, _WRAPS (its old end),
+ * _INVALID or _TOO_SHORT; _TOO_MANY (report->count says how many instructions); _WRAPS (a new end; report->block is the
+ * number of blocks); _TOO_FAR; _NO_ROOM. _NO_MEMORY may replace any of those after _TOO_LARGE. The call allocates
+ * memory.
  */
 int32_t feddurzai_move_blocks(uint32_t bits, const uint8_t *bytes, size_t len, const feddurzai_block *blocks, size_t count,
     uint8_t *out, size_t room, feddurzai_placed_block *places, size_t places_room, feddurzai_moved *map, size_t map_room,
@@ -807,176 +1036,248 @@ int32_t feddurzai_move_blocks(uint32_t bits, const uint8_t *bytes, size_t len, c
 /* ---- places for moved code --------------------------------------------------------------------------------- */
 
 /*
- * A fixed range of addresses in which blocks of code find a place. It is three numbers, and beside them an array of the
- * caller's with the live blocks, by address, in its first `count` elements; `{base, size, 0}` is one without a block. The
- * size is 16 to 1048576 and a multiple of 16, the array has 1 to 65536 elements, and the region ends at 2 to the power of
- * 64 or before. The calls look at all of this, and at whether each block has some bytes and stands inside the region, none
- * over another: else they say FEDDURZAI_BAD_REGION, and change nothing.
+ * A range of addresses from which blocks of code are allocated. The caller keeps it as three numbers and an array whose
+ * first `count` elements are the live blocks, in ascending order of address. `{base, size, 0}` is an empty region.
+ *
+ * The size is a multiple of 16 from 16 to 1048576. The array has 1 to 65536 elements. The region ends at 2^64 or
+ * before. Each block has at least one byte, is inside the region, and overlaps no other. The functions check all of
+ * this; if it does not hold, they return FEDDURZAI_BAD_REGION and change nothing. Each call takes time in proportion to
+ * the number of live blocks.
+ *
+ *     feddurzai_region region = {0x10000, 4096, 0};
+ *     feddurzai_live live[64];
+ *     uint64_t place;
+ *     int32_t said = feddurzai_region_reserve(&region, live, 64, 17, &place);     // 0: place is 0x10000, with 32 bytes
+ *     if (said == 0)
+ *         said = feddurzai_region_fill(&region, live, 64, place, (const uint8_t *)"\x90\xc3", 2, image, 4096);
+ *     if (said == 0)
+ *         said = feddurzai_region_release(&region, live, 64, place);
  */
 typedef struct feddurzai_region {
-    uint64_t base;      /* its first address */
-    uint64_t size;      /* how many bytes it has */
-    uint64_t count;     /* how many blocks are live */
+    uint64_t base;      /* the first address */
+    uint64_t size;      /* in bytes */
+    uint64_t count;     /* the number of live blocks */
 } feddurzai_region;
 
-/* A live block. */
+/* A live block of a region. */
 typedef struct feddurzai_live {
-    uint64_t place;     /* the address where it starts */
-    uint64_t len;       /* how many bytes it takes */
+    uint64_t place;     /* its first address */
+    uint64_t len;       /* its size in bytes */
 } feddurzai_live;
 
 /*
- * Hands out a place for `len` bytes, rounded up to a multiple of 16: the front of the first gap, by address, that is so
- * long. *place gets its address, and the block becomes one of the live ones; `room` is how many elements `blocks` has.
+ * Allocates a block of `len` bytes, rounded up to a multiple of 16, in the lowest gap that is long enough. *place
+ * receives its address, and the block is inserted into `blocks`. `room` is the number of elements of `blocks`.
  *
- * Returns 0, or FEDDURZAI_BAD_REGION, _EMPTY (`len` is 0), _NO_ROOM (all elements are live blocks), _FULL.
+ * Returns 0, or FEDDURZAI_BAD_REGION, _EMPTY (`len` is 0), _NO_ROOM (every element of `blocks` is a live block), _FULL.
  */
 int32_t feddurzai_region_reserve(feddurzai_region *region, feddurzai_live *blocks, size_t room, uint64_t len,
     uint64_t *place);
 
 /*
- * Ends the live block that starts at `place`; a later block may be placed there. Fill it with no bytes first where an
- * image of the region is kept. Returns 0, or FEDDURZAI_BAD_REGION, _NOT_LIVE.
+ * Frees the live block that starts at `place`. Its bytes are not changed: if an image of the region is kept, clear the
+ * block first (feddurzai_region_fill with `len` 0).
+ *
+ * Returns 0, or FEDDURZAI_BAD_REGION, _NOT_LIVE.
  */
 int32_t feddurzai_region_release(feddurzai_region *region, feddurzai_live *blocks, size_t room, uint64_t place);
 
 /*
- * Writes `len` bytes at the front of the live block that starts at `place`, and CC (int3) over the rest of the block. It
- * writes to `image`, which has the bytes of the region from its base on: its memory, or a copy of it. `len` 0 clears the
- * block. Nothing else of the image is written.
+ * Writes `len` bytes to the front of the live block that starts at `place`, and CC (INT3) to the rest of the block. If
+ * `len` is 0, the whole block becomes CC.
  *
- * Returns 0, or FEDDURZAI_BAD_REGION, _NO_ROOM (the image is shorter than the region), _NOT_LIVE, _NO_ROOM (the block has
- * fewer bytes).
+ *  - image, image_len: the bytes of the region from its base: its memory, or a copy. Nothing outside the block is
+ *    written.
+ *
+ * Returns 0, or FEDDURZAI_BAD_REGION, _NO_ROOM (the image is shorter than the region), _NOT_LIVE, _NO_ROOM (the block
+ * has fewer than `len` bytes).
  */
 int32_t feddurzai_region_fill(const feddurzai_region *region, const feddurzai_live *blocks, size_t room, uint64_t place,
     const uint8_t *bytes, size_t len, uint8_t *image, size_t image_len);
 
-/* ---- stepping an instruction elsewhere --------------------------------------------------------------------- */
+/* ---- displaced single stepping ----------------------------------------------------------------------------- */
 
-#define FEDDURZAI_MAX_STEP 53       /* bytes of the code of a step, at most */
+#define FEDDURZAI_MAX_STEP 53       /* the longest code of a step, in bytes */
 
-/* The numbers of the code of a step. */
+/* What feddurzai_step reports. Fields that do not apply are 0. */
 typedef struct feddurzai_step_report {
-    uint64_t bytes;     /* how many bytes the code has */
-    uint64_t back_at;   /* the offset of its jump back: where control comes when the instruction is done */
-    uint64_t address;   /* _TOO_FAR: the target; _WRAPS: the end of the code, modulo 2 to the power of 64 */
-    uint8_t len;        /* how many bytes the instruction had */
+    uint64_t bytes;     /* the size of the code */
+    uint64_t back_at;   /* the offset of its jump back: control reaches it when the instruction is complete */
+    uint64_t address;   /* _TOO_FAR: the target; _WRAPS: the end of the code, modulo 2^64 */
+    uint8_t len;        /* the length of the instruction */
 } feddurzai_step_report;
 
 /*
- * Writes the code by which a debugger lets one instruction run while its breakpoint stays: the instruction at the front
- * of `len` bytes, which stands at address `old_ip` (taken modulo 2 to the power of bits), made for the address `place`,
- * and a jump back to the address behind it, old_ip + report->len. The bytes are the program's own, without the
- * breakpoint; FEDDURZAI_MAX_LEN of them are enough. Every target stays: what a branch or an operand at RIP or EIP
- * reached it still reaches, also where that is the instruction itself. A room of FEDDURZAI_MAX_STEP is always enough.
+ * Makes the code with which a debugger runs one instruction at another address, while the breakpoint on it stays: the
+ * instruction, moved to `place`, and a jump back to the address after it, old_ip + report->len.
  *
- * Control that is at place + report->back_at has done the instruction, and is to be told as old_ip + report->len; at an
- * address of the code before that it is still at old_ip, as a fault is. Several instructions may stand for the one, so a
- * debugger that steps by the processor's trap flag steps on until control is at back_at or outside the code.
- * A call pushes the address behind it in the code: the procedure comes back there and by the jump back to where it
- * should. The code has to stand until then, or the debugger puts old_ip + report->len in place of the pushed address.
+ *  - bits: the mode.
+ *  - old_ip: the address of the instruction, taken modulo 2^bits.
+ *  - bytes, len: the program's own bytes, without the breakpoint. FEDDURZAI_MAX_LEN bytes are enough.
+ *  - place: the address at which the code will be placed.
+ *  - out, room: receive the code. FEDDURZAI_MAX_STEP bytes are always enough.
+ *  - report: receives the sizes, also if the buffer is too small.
  *
- * Places for the code of many threads: feddurzai_region_reserve for feddurzai_step_len (or FEDDURZAI_MAX_STEP) bytes
- * gives one, feddurzai_region_fill writes the code there, and feddurzai_region_release ends it.
+ * Every target is kept: a branch or an operand at RIP or EIP reaches what it reached, even if that is the instruction
+ * itself.
  *
- * Returns how many bytes, or FEDDURZAI_BAD_MODE, _INVALID, _TOO_SHORT, _WRAPS (the code passes the address space of the
- * mode), _TOO_FAR (the instruction does not reach its target from the place), _NO_ROOM; _NO_MEMORY may stand in place of
- * those behind _TOO_SHORT. The report has the numbers also where the room is too small.
+ * The debugger translates addresses as follows.
+ *  - At place + report->back_at the instruction is complete: report old_ip + report->len.
+ *  - At `place` the instruction has not completed: report old_ip. This includes a fault, and a repeated string
+ *    instruction that was interrupted.
+ *  - At an address between the two, step on. The code may be several instructions; a debugger that uses the trap flag
+ *    steps until control is at back_at or outside the code. For a conditional jump (Jcc, JRCXZ) nothing has changed
+ *    yet, and old_ip may be reported. For LOOP, LOOPE and LOOPNE it may not: if the code is a bridge, its first
+ *    instruction has decremented the counter before the final jump.
+ *
+ * Two kinds of instruction leave an address of the code behind:
+ *  - A CALL pushes the address after it in the code. The procedure returns there, and the jump back continues at the
+ *    right address. Keep the code until then, or replace the pushed address by old_ip + report->len.
+ *  - SYSCALL pushes nothing. It leaves the address after it in RCX, and SYSRET returns there. Keep the code until the
+ *    system call returns; the program sees the address of the code in RCX, unless the debugger replaces it by old_ip +
+ *    report->len.
+ *
+ * To place the code of many threads, reserve feddurzai_step_len (or FEDDURZAI_MAX_STEP) bytes by
+ * feddurzai_region_reserve, write the code by feddurzai_region_fill, and free it by feddurzai_region_release.
+ *
+ * Returns the number of bytes, or FEDDURZAI_BAD_MODE, _INVALID, _TOO_SHORT, _WRAPS (the code extends past the address
+ * space of the mode), _TOO_FAR (the instruction cannot reach its target from `place`), _NO_ROOM. _NO_MEMORY may replace
+ * any of those after _TOO_SHORT. The call allocates memory.
+ *
+ *     // call 0x2000 at 0x1000, to be stepped at 0x1800
+ *     len = feddurzai_step(64, 0x1000, (const uint8_t *)"\xe8\xfb\x0f\x00\x00", 5, 0x1800, out, sizeof out, &report);
+ *     // len is 10: e8 fb 07 00 00, call 0x2000, and e9 fb f7 ff ff, jmp 0x1005; report.back_at is 5
  */
 int32_t feddurzai_step(uint32_t bits, uint64_t old_ip, const uint8_t *bytes, size_t len, uint64_t place, uint8_t *out,
     size_t room, feddurzai_step_report *report);
 
 /*
- * How many bytes feddurzai_step writes at most for this instruction, at whatever place that is a multiple of 16 bytes
- * behind `base`, as those of a region with that base are: 1 to FEDDURZAI_MAX_STEP.
- * Or FEDDURZAI_BAD_MODE, _INVALID, _TOO_SHORT.
+ * Returns an upper bound of the bytes that feddurzai_step writes for this instruction at any place that is a multiple
+ * of 16 bytes after `base`, as the places of a region with that base are: 1 to FEDDURZAI_MAX_STEP. Or
+ * FEDDURZAI_BAD_MODE, _INVALID, _TOO_SHORT.
  */
 int32_t feddurzai_step_len(uint32_t bits, uint64_t old_ip, const uint8_t *bytes, size_t len, uint64_t base);
 
-/* ---- where control goes ------------------------------------------------------------------------------------ */
+/* ---- control flow ------------------------------------------------------------------------------------------ */
 
 /*
- * Follows control from the first byte of `len` bytes of code, which has the address `base`. Writes the offsets of the
- * instructions that it reaches to `starts`, in ascending order, and beside each the offset at which its basic block
- * begins to `leaders`. There are never more than bytes. It goes into calls, as into jumps, where their target is among
- * the bytes, and on behind them; a call that does not come back is none to it.
+ * Follows control from the first byte of some code.
  *
- * Returns how many, or FEDDURZAI_BAD_MODE, _TOO_LARGE, _NO_MEMORY, _NO_ROOM (either room is too small).
+ *  - bits: the mode.
+ *  - base, bytes, len: the code and the address of its first byte; at most FEDDURZAI_MAX_CODE bytes.
+ *  - starts, room: receive the offsets of the reached instructions, in ascending order. There are at most `len`.
+ *  - leaders, leaders_room: receive, for each of them, the offset of the first instruction of its basic block.
+ *
+ * Jumps and calls are followed to targets inside the bytes, and every call is assumed to return. Indirect targets are
+ * unknown. Where no instruction can be decoded, the offset is reached and control ends: this includes instructions that
+ * the table does not have.
+ *
+ * Returns the number of reached offsets, or FEDDURZAI_BAD_MODE, _TOO_LARGE, _NO_MEMORY, _NO_ROOM (a buffer has fewer
+ * elements). The call allocates memory.
  */
 int32_t feddurzai_flow(uint32_t bits, uint64_t base, const uint8_t *bytes, size_t len, uint32_t *starts, size_t room,
     uint32_t *leaders, size_t leaders_room);
 
-/* The kinds of a start at which no instruction is read; of another it is the flow, FEDDURZAI_FLOW_NEXT .. */
+/* The kind of a reached offset: its flow, FEDDURZAI_FLOW_NEXT .., or one of these if no instruction is decoded there. */
 enum {
     FEDDURZAI_KIND_TOO_SHORT = 0xfe,    /* the bytes end before the instruction does */
     FEDDURZAI_KIND_INVALID = 0xff       /* no instruction begins there */
 };
 
 /*
- * Follows control as feddurzai_flow does, from each of `count` first offsets: the starts of functions, say, or a .cold
- * part besides the function it belongs to. Writes the reached offsets to `starts` and beside each its leader to
- * `leaders`, as feddurzai_flow does, and to `kinds` what is read there: the flow of the instruction, or
- * FEDDURZAI_KIND_INVALID or _TOO_SHORT, from where control goes nowhere. A first offset that is `len` or more adds
- * nothing, nor does one that stands there again; their order does not matter. Every other one begins a basic block,
- * whatever goes to it. From the offset 0 alone it writes what feddurzai_flow does.
+ * Follows control as feddurzai_flow does, from several offsets: the starts of functions, for example, or a .cold part
+ * and the function that it belongs to.
  *
- * Returns how many are reached, at most `len`, or FEDDURZAI_BAD_MODE, _TOO_LARGE (above FEDDURZAI_MAX_FLOW), _NO_MEMORY,
- * _NO_ROOM (some room is too small).
+ *  - bits, base, bytes, len: as in feddurzai_flow, but at most FEDDURZAI_MAX_FLOW bytes.
+ *  - entries, count: the offsets, in any order. Offsets of `len` or more and repeated ones are ignored. Each other one
+ *    begins a basic block.
+ *  - starts, room and leaders, leaders_room: as in feddurzai_flow.
+ *  - kinds, kinds_room: receive, for each reached offset, the flow of its instruction, or FEDDURZAI_KIND_INVALID or
+ *    _TOO_SHORT.
+ *
+ * With the one offset 0 the call writes the same starts and leaders as feddurzai_flow.
+ *
+ * Returns the number of reached offsets, at most `len`, or FEDDURZAI_BAD_MODE, _TOO_LARGE (more than FEDDURZAI_MAX_FLOW
+ * bytes), _NO_MEMORY, _NO_ROOM (a buffer has fewer elements). The call allocates memory.
+ *
+ *     static const uint32_t entries[] = {0};
+ *     // je 3; nop; ret
+ *     len = feddurzai_flow_from(64, 0, (const uint8_t *)"\x74\x01\x90\xc3", 4, entries, 1, starts, 4, leaders, 4, kinds, 4);
+ *     // len is 3: the offsets 0, 2 and 3 begin three basic blocks, and kinds[2] is FEDDURZAI_FLOW_RETURN
  */
 int32_t feddurzai_flow_from(uint32_t bits, uint64_t base, const uint8_t *bytes, size_t len, const uint32_t *entries,
     size_t count, uint32_t *starts, size_t room, uint32_t *leaders, size_t leaders_room, uint8_t *kinds,
     size_t kinds_room);
 
-/* What becomes of a branch to the function's own start that is moved to the trampoline. */
+/* ---- hooks ------------------------------------------------------------------------------------------------- */
+
+/* The target of a moved branch that went to the function's own start. */
 enum {
-    FEDDURZAI_START_MOVED = 0,      /* it goes to the moved first instruction: a loop stays in the trampoline */
-    FEDDURZAI_START_HOOKED = 1      /* it stays, and comes to the replacement, as recursion does elsewhere */
+    FEDDURZAI_START_MOVED = 0,      /* the moved first instruction: a loop stays in the trampoline */
+    FEDDURZAI_START_HOOKED = 1      /* the start, and so the replacement: a recursive call is hooked too */
 };
 
-/* How the jump of a detour goes to the replacement. */
+/* The form of the jump from the function to the replacement. */
 enum {
-    FEDDURZAI_DETOUR_NEAR = 1,      /* 5 bytes (3 in 16-bit code) */
-    FEDDURZAI_DETOUR_RELAY = 2,     /* 64-bit code, 5 bytes: to a relay behind the trampoline, which goes on */
-    FEDDURZAI_DETOUR_ABSOLUTE = 3   /* 64-bit code, 14 bytes: jmp [rip], and the address in the 8 bytes behind it */
+    FEDDURZAI_DETOUR_NEAR = 1,      /* 5 bytes (3 in 16-bit code): a near jump */
+    FEDDURZAI_DETOUR_RELAY = 2,     /* 64-bit mode, 5 bytes: a near jump to a relay after the trampoline */
+    FEDDURZAI_DETOUR_ABSOLUTE = 3   /* 64-bit mode, 14 bytes: jmp [rip], and the address in the 8 bytes that follow */
 };
 
-#define FEDDURZAI_MAX_PATCH 28      /* bytes of a patch, at most */
+#define FEDDURZAI_MAX_PATCH 28      /* the longest patch, in bytes */
 
-/* The numbers of a detour. A part of the trampoline that there is not has the offset of the end, `bytes`. */
+/*
+ * What feddurzai_detour reports. An absent part of the trampoline has the offset of the end, `bytes`. Other fields that
+ * do not apply are 0.
+ */
 typedef struct feddurzai_detour_report {
-    uint64_t taken;         /* how many bytes of the function are written over: those of the patch */
-    uint64_t bytes;         /* how many bytes the trampoline has; the moved instructions begin it */
+    uint64_t taken;         /* the size of the patch: so many bytes of the function are overwritten */
+    uint64_t bytes;         /* the size of the trampoline, which begins with the moved instructions */
     uint64_t jump_back;     /* the offset of its jump back to the function at `taken` */
     uint64_t slots_at;      /* the offset of the first of its slots of 8 bytes */
     uint64_t relay_at;      /* the offset of its relay, 14 bytes */
-    uint64_t at;            /* _INVALID, _TOO_SHORT, _ENDS: the offset of the byte; _SMALL: how many bytes the function
-                               has; _ENTERED: the offset that control comes from; _TOO_FAR: the number of the
-                               instruction, from 0 */
-    uint64_t target;        /* _SMALL: how many bytes the jump has; _ENTERED: the offset that control goes to; _TOO_FAR:
-                               the target; _WRAPS: the end of the trampoline, modulo 2 to the power of 64 */
+    uint64_t at;            /* _INVALID, _TOO_SHORT, _ENDS: the offset of the byte; _SMALL: the size of the function;
+                               _ENTERED: the offset that control comes from; _TOO_FAR: the number of the instruction,
+                               from 0 */
+    uint64_t target;        /* _SMALL: the size of the jump; _ENTERED: the offset that control goes to; _TOO_FAR: the
+                               target; _WRAPS: the end of the trampoline, modulo 2^64 */
     uint8_t form;           /* FEDDURZAI_DETOUR_NEAR .., 0 after a refusal */
 } feddurzai_detour_report;
 
 /*
- * Makes both parts of a hook of the function at `ip`, whose first `len` bytes are `code`: the patch, which replaces its
- * first bytes and jumps to the replacement at `to`, and the trampoline, which will stand at `place`, does what those
- * bytes did, and goes on behind them. It writes them to two rooms, and nothing to the function: that is the caller's.
+ * Makes both parts of a hook. The patch overwrites the first bytes of the function and jumps to the replacement. The
+ * trampoline runs the overwritten instructions and continues after them, so calling it is calling the original
+ * function. The call writes both to buffers; writing them into the program is left to the caller. docs/hooks.md says
+ * what a hook must take care of.
  *
- * The jump is the first of the forms above that reaches: with a place within 2 gigabytes of the function 5 bytes are
- * enough, wherever the replacement is. Taken are the first instructions, as few as have the bytes of the jump, and behind
- * one where control ends (ret, jmp, ud2) only padding; CC fills the patch up. The trampoline is these instructions moved,
- * as by feddurzai_move, the jump back unless control ends in them, and behind that gap, slots and relay. A branch to a
- * taken instruction follows it, one to the very start is as `start` says, and every other target stays.
+ *  - bits: the mode.
+ *  - ip, code, len: the function's address and its bytes from the first; at most FEDDURZAI_MAX_CODE. Give the whole
+ *    function: a branch into the overwritten bytes is found in these bytes alone (_ENTERED), and only where control can
+ *    be followed. Code that follows an indirect jump, or an instruction that the table does not have, may be missed.
+ *  - to: the address of the replacement.
+ *  - place: the address at which the trampoline will be placed. Within 2 gigabytes of the function the jump has 5
+ *    bytes, wherever the replacement is.
+ *  - start: FEDDURZAI_START_MOVED or FEDDURZAI_START_HOOKED.
+ *  - patch, patch_room: receive the patch. FEDDURZAI_MAX_PATCH bytes are always enough.
+ *  - trampoline, trampoline_room: receive the trampoline.
+ *  - report: receives the sizes, also if a buffer is too small. A first call with two buffers of 0 elements reports the
+ *    sizes that the second needs.
  *
- * `code` should be the whole function, as far as it is known: a branch into what is taken is found in it (_ENTERED), and
- * nowhere else. See docs/hooks.md for what a hook has to see to besides.
+ * The jump is the first of the three forms above that reaches. The taken instructions are the first ones, as few as
+ * cover the jump; after one at which control ends (RET, JMP, UD2) only padding is taken. The patch is filled up with
+ * CC. The trampoline has the taken instructions, moved as by feddurzai_move; a jump back, unless control ends in them;
+ * and then a gap, slots and the relay as needed. A branch to a taken instruction follows it, a branch to the start goes
+ * where `start` says, and every other target stays.
  *
- * The report says how many bytes there are, also where a room is too small: a first call with no rooms tells how much is
- * needed. A room of FEDDURZAI_MAX_PATCH is always enough for the patch.
+ * Returns 0, or FEDDURZAI_BAD_MODE, _BAD_START, _TOO_LARGE (more than FEDDURZAI_MAX_CODE bytes); _INVALID or _TOO_SHORT
+ * (no instruction is decoded in the part to be taken), _SMALL, _ENDS, _ENTERED, _WRAPS (the trampoline), _TOO_FAR,
+ * _NO_ROOM. _NO_MEMORY may replace any of those after _TOO_LARGE. The call allocates memory.
  *
- * Returns 0, or FEDDURZAI_BAD_MODE, _BAD_START, _TOO_LARGE (above FEDDURZAI_MAX_CODE); _INVALID or _TOO_SHORT (in the
- * part to be taken no instruction is read), _SMALL, _ENDS, _ENTERED, _WRAPS (the trampoline), _TOO_FAR, _NO_ROOM;
- * _NO_MEMORY may stand in place of those behind _TOO_LARGE.
+ *     // sub rsp, 0x18; xor eax, eax; ret
+ *     static const uint8_t function[] = {0x48, 0x83, 0xec, 0x18, 0x31, 0xc0, 0xc3};
+ *     said = feddurzai_detour(64, 0x1000, function, sizeof function, 0x2000, 0x3000, FEDDURZAI_START_MOVED,
+ *         patch, sizeof patch, trampoline, sizeof trampoline, &report);
+ *     // said is 0. The patch is jmp 0x2000 and int3; the trampoline is sub, xor and, at report.jump_back, jmp 0x1006
  */
 int32_t feddurzai_detour(uint32_t bits, uint64_t ip, const uint8_t *code, size_t len, uint64_t to, uint64_t place,
     uint32_t start, uint8_t *patch, size_t patch_room, uint8_t *trampoline, size_t trampoline_room,
@@ -985,12 +1286,12 @@ int32_t feddurzai_detour(uint32_t bits, uint64_t ip, const uint8_t *code, size_t
 /* ---- null pointers ----------------------------------------------------------------------------------------- */
 
 /*
- * The library does not look whether a pointer is NULL. The functions below do: where one is that may not be, they write
- * nothing and return FEDDURZAI_NULL, and else they call the library's function. By the macros at the end they have its
- * name, for calls and for its address; `#undef feddurzai_decode` makes that name the library's again.
+ * The library does not test for NULL. The functions below do: they return FEDDURZAI_NULL and write nothing if a pointer
+ * is NULL that may not be, and else call the library's function. The macros at the end give them the library's names,
+ * in calls and as addresses. `#undef feddurzai_decode` makes the name the library's again.
  */
 
-/* Whether a pointer to `count` elements is NULL though there is one at least. */
+/* Whether a pointer to `count` elements is NULL although `count` is not 0. */
 static inline int feddurzai_is_null(const void *pointer, size_t count)
 {
     return pointer == NULL && count != 0;
@@ -1017,7 +1318,7 @@ static inline int32_t feddurzai_checked_offsets(uint32_t bits, const uint8_t *by
     return feddurzai_is_null(bytes, len) || parts == NULL ? FEDDURZAI_NULL : feddurzai_offsets(bits, bytes, len, parts);
 }
 
-/* here NULL for the struct stands for none */
+/* instr may be NULL: then the instruction is not returned */
 static inline int32_t feddurzai_checked_line(uint32_t bits, uint32_t syntax, uint64_t ip, const uint8_t *bytes, size_t len,
     feddurzai_instr *instr, char *text, size_t room)
 {

@@ -3,13 +3,14 @@
     feddurzai-list [/COUNT] [START [LENGTH]] [intel|att|masm]   lists code of the inferior
     feddurzai-flow [START [LENGTH]] [intel|att|masm]            lists what control reaches from START, block by block
 
-START and LENGTH are expressions of GDB, as `main 40` or `$pc 0x80`; one with spaces stands in quotes. With no LENGTH it is the function
-at START, and with no START that at $pc. /COUNT lists so many instructions from START, or from $pc. `=>` marks the instruction at $pc.
+START and LENGTH are expressions of GDB, such as `main 40` or `$pc 0x80`; quote an expression with spaces. Without LENGTH the commands list the
+function at START, and without START the function at $pc. /COUNT lists so many instructions from START, or from $pc. `=>` marks the
+instruction at $pc.
 
-The mode is that of the inferior's architecture; set it by `set feddurzai-bits 16`, 32 or 64, and back by 0.
+The mode is that of the inferior's architecture. `set feddurzai-bits 16`, 32 or 64 overrides it, and 0 restores it.
 
-With `set feddurzai-effects on` the list says what the instruction that ran last read and wrote, with ` >` before it; with `all` what each
-instruction reads and writes; and with `off` neither.
+With `set feddurzai-effects on` the list reports what the instruction that ran last has read and written, and marks it with ` >`. With `all` it
+reports what each instruction reads and writes, and with `off` neither.
 """
 
 import os
@@ -27,7 +28,7 @@ LONGEST = 15
 
 
 class Bits(gdb.Parameter):
-    """The mode of the code that feddurzai lists: 16, 32 or 64, or 0 for that of the inferior's architecture."""
+    """The mode of the code that feddurzai lists: 16, 32 or 64, or 0 for the mode of the inferior's architecture."""
 
     set_doc = "Set the mode of the code that feddurzai lists."
     show_doc = "Show the mode of the code that feddurzai lists."
@@ -39,7 +40,7 @@ class Bits(gdb.Parameter):
     def get_set_string(self):
         asked, self.value = self.value, self.kept
         if asked not in (0, *MODES):
-            raise gdb.GdbError(f"feddurzai-bits is 16, 32 or 64, or 0 for that of the architecture, not {asked}: it stays {self.kept}")
+            raise gdb.GdbError(f"feddurzai-bits must be 16, 32 or 64, or 0 for the mode of the architecture, not {asked}: it stays {self.kept}")
         self.value = self.kept = asked
         return ""
 
@@ -51,16 +52,16 @@ BITS = Bits()
 
 
 class EffectsShown(gdb.Parameter):
-    """Of which instructions feddurzai-list says what they read and write: off of none, on of the one that ran last, all of each.
+    """The instructions whose reads and writes feddurzai-list reports: off for none, on for the one that ran last, all for each.
 
-    Which one ran last is known where the last two stops were one instruction apart, as after stepi."""
+    The one that ran last is known if the last two stops were one instruction apart, as after stepi."""
 
-    set_doc = "Set of which instructions feddurzai-list says what they read and write."
-    show_doc = "Show of which instructions feddurzai-list says what they read and write."
-    WORDS = {"off": "none", "on": "the one that ran last", "all": "each"}
+    set_doc = "Set the instructions whose reads and writes feddurzai-list reports."
+    show_doc = "Show the instructions whose reads and writes feddurzai-list reports."
+    WORDS = {"off": "no instruction", "on": "the instruction that ran last", "all": "each instruction"}
 
     def __init__(self):
-        # GDB itself refuses any other value, and keeps the old one
+        # GDB itself refuses any other value and keeps the old one
         super().__init__("feddurzai-effects", gdb.COMMAND_DATA, gdb.PARAM_ENUM, list(self.WORDS))
         self.value = "off"
 
@@ -68,14 +69,14 @@ class EffectsShown(gdb.Parameter):
         return ""
 
     def get_show_string(self, value):
-        return f"feddurzai-list says of {self.WORDS[value]} what it reads and writes (feddurzai-effects is {value})."
+        return f"feddurzai-list reports the reads and writes of {self.WORDS[value]} (feddurzai-effects is {value})."
 
 
 EFFECTS = EffectsShown()
 
 
 class Stops:
-    """Where a thread stood at the last two stops."""
+    """The thread and its address at the last two stops."""
 
     def __init__(self):
         self.before = self.now = None
@@ -83,7 +84,7 @@ class Stops:
         gdb.events.exited.connect(self.forget)
 
     def take(self, event):
-        """Takes the place of a stop."""
+        """Records a stop."""
         try:
             place = (gdb.selected_thread().ptid, gdb.newest_frame().pc())
         except (gdb.error, AttributeError):
@@ -91,7 +92,7 @@ class Stops:
         self.before, self.now = self.now, place
 
     def forget(self, event):
-        """The program has ended."""
+        """Forgets both stops: the program has ended."""
         self.before = self.now = None
 
 
@@ -99,7 +100,7 @@ STOPS = Stops()
 
 
 def frame_now():
-    """The selected frame, None where nothing runs."""
+    """The selected frame, None if no process is running."""
     try:
         return gdb.selected_frame()
     except gdb.error:
@@ -107,32 +108,32 @@ def frame_now():
 
 
 def architecture_now():
-    """The architecture of the selected frame, or of the program where nothing runs."""
+    """The architecture of the selected frame, or of the program if no process is running."""
     frame = frame_now()
     return frame.architecture() if frame else gdb.selected_inferior().architecture()
 
 
 def bits_now():
-    """The mode."""
+    """The mode to list in."""
     if BITS.kept:
         return BITS.kept
     name = architecture_now().name()
     if name.startswith("i8086"):
         return 16
     if not name.startswith("i386"):
-        raise gdb.GdbError(f"the architecture is {name}, which is not x86: set feddurzai-bits to list its code as such")
+        raise gdb.GdbError(f"the architecture is {name}, which is not x86: to list its code as x86 code, set feddurzai-bits")
     # x64-32 is 64-bit code with short pointers
     return 64 if "x86-64" in name or "x64" in name else 32
 
 
 def pc_now():
-    """The address at which the selected frame stands, None where nothing runs."""
+    """The pc of the selected frame, None if no process is running."""
     frame = frame_now()
     return frame.pc() if frame else None
 
 
 def symbol_of(address):
-    """` <name+offset>` of an address, or nothing."""
+    """` <name+offset>` for an address, empty if it has no symbol."""
     words = gdb.execute(f"info symbol {address:#x}", to_string=True).split(" in section")[0].strip()
     if words.startswith("No symbol"):
         return ""
@@ -140,7 +141,7 @@ def symbol_of(address):
 
 
 def number_of(expression):
-    """The number that an expression of GDB stands for; of a function its address."""
+    """The value of an expression of GDB as an unsigned number; for a function its address."""
     try:
         value = gdb.parse_and_eval(expression)
         if value.type.code == gdb.TYPE_CODE_FUNC:
@@ -151,25 +152,26 @@ def number_of(expression):
 
 
 def function_at(address):
-    """The first address of the function at an address, and its length; where it has several parts, of the part at the address.
+    """The first address of the function at an address, and its length. If the function has several parts, these are of the part at the
+    address.
 
-    GDB knows where a function ends, with debug information or without, as it disassembles it."""
+    They come from GDB's disassembly, which finds the end of a function with or without debug information."""
     try:
         text = gdb.execute(f"disassemble {address:#x}", to_string=True)
     except gdb.error as error:
-        raise gdb.GdbError(f"{address:#x}: {error} Name a LENGTH or /COUNT.")
+        raise gdb.GdbError(f"{address:#x}: {error} Give a LENGTH or /COUNT.")
     for part in re.findall(r"^Address range (0x[0-9a-f]+) to (0x[0-9a-f]+):$", text, re.M):
         start, end = (int(it, 16) for it in part)
         if start <= address < end:
             return start, end - start
     starts = [int(it, 16) for it in re.findall(r"^(?:=>)?\s+(0x[0-9a-f]+)", text, re.M)]
     if not starts:
-        raise gdb.GdbError(f"{address:#x}: no function. Name a LENGTH or /COUNT.")
+        raise gdb.GdbError(f"{address:#x}: GDB finds no function there. Give a LENGTH or /COUNT.")
     return starts[0], starts[-1] - starts[0] + architecture_now().disassemble(starts[-1])[0]["length"]
 
 
 def read_front(start, length):
-    """The bytes from an address on, as far as they can be read."""
+    """The bytes from an address on, up to the first that cannot be read."""
     if length == 0:
         return b""
     try:
@@ -183,21 +185,21 @@ def read_front(start, length):
 
 
 class Asked:
-    """What a command's words ask for: the start, its bytes as far as they can be read, the count of instructions, and the style."""
+    """The arguments of a command: the start, the readable bytes from there, the count of instructions, and the style."""
 
     def __init__(self, words, usage, counts):
         words = gdb.string_to_argv(words)
         self.count = None
         if counts and words and words[0].startswith("/"):
             if not words[0][1:].isdigit():
-                raise gdb.GdbError(f"{words[0]} is no count of instructions, as /20")
+                raise gdb.GdbError(f"{words[0]} is not a count of instructions: write /20, for example")
             self.count = int(words.pop(0)[1:])
         self.style = STYLES[words.pop()] if words and words[-1] in STYLES else feddurzai.Style.INTEL
         if len(words) > 2 or len(words) == 2 and self.count is not None:
             raise gdb.GdbError(f"usage: {usage}")
         self.start = number_of(words[0]) if words else pc_now()
         if self.start is None:
-            raise gdb.GdbError("nothing runs, so that there is no $pc: name a START")
+            raise gdb.GdbError("no process is running, so there is no $pc: give a START")
         if len(words) == 2:
             length = number_of(words[1])
         elif self.count is not None:
@@ -205,19 +207,19 @@ class Asked:
         else:
             self.start, length = function_at(self.start)
         if length > feddurzai.MAX_CODE:
-            raise gdb.GdbError(f"{length} bytes are more than {feddurzai.MAX_CODE}")
+            raise gdb.GdbError(f"{length} bytes are more than {feddurzai.MAX_CODE}, the limit of one command: give a smaller LENGTH")
         self.code = read_front(self.start, length)
         self.faults = len(self.code) < length
         if self.faults and not self.code:
             raise gdb.GdbError(f"{self.start:#x}: no memory can be read there")
 
     def fault(self):
-        """The line that tells where no more memory can be read."""
+        """The line that says where readable memory ends."""
         return f"   {self.start + len(self.code):#x}: no memory can be read from here on"
 
 
 def text_of(item, style):
-    """The text of an item, with the symbol behind an address that an instruction names."""
+    """The text of an item, followed by the symbol of the address that an instruction names."""
     if item.kind is not feddurzai.ItemKind.INSTRUCTION:
         return item.text()
     about = item.info()
@@ -226,7 +228,7 @@ def text_of(item, style):
 
 
 def last_run():
-    """The instruction that ran last, None where that is not known: the last two stops are one instruction apart."""
+    """The instruction that ran last, None if it is unknown because the last two stops are not one instruction apart."""
     if STOPS.before is None or STOPS.now is None or STOPS.before[0] != STOPS.now[0]:
         return None
     before, now = STOPS.before[1], STOPS.now[1]
@@ -241,7 +243,7 @@ def last_run():
     return item if now in behind | {about.target} else None
 
 
-# the general registers, each with where it lies in the widest one
+# the classes of general registers, each with its lowest bit and its width in the widest register
 PARTS = {
     feddurzai.RegClass.LOW8: (0, 8),
     feddurzai.RegClass.HIGH8: (8, 8),
@@ -252,7 +254,7 @@ PARTS = {
 
 
 def value_of(register):
-    """`=0x5` of a general register as it is now, nothing of any other."""
+    """`=0x5` for a general register, by its present value; empty for any other."""
     if register.reg_class not in PARTS:
         return ""
     shift, bits = PARTS[register.reg_class]
@@ -265,7 +267,7 @@ def value_of(register):
 
 
 def touched_words(told, surely, maybe, values):
-    """The registers and the memory of which an access has one of two bits; `?` behind those that a condition may prevent."""
+    """The registers and the memory whose access has one of two bits, with `?` after those that a condition may suppress."""
     words = {}
     for use in told.registers:
         if use.access & (surely | maybe):
@@ -280,7 +282,7 @@ def touched_words(told, surely, maybe, values):
 
 
 def flag_words(flags, kept=feddurzai.Flags(0), value=None):
-    """The names of flags, with their values where EFLAGS is given; `?` behind those that may be kept."""
+    """The names of flags, with their values if EFLAGS is given, and with `?` after those that may be kept."""
     found = []
     for name, flag in feddurzai.Flags.__members__.items():
         if flags & flag:
@@ -290,7 +292,7 @@ def flag_words(flags, kept=feddurzai.Flags(0), value=None):
 
 
 def effects_text(instr, ran):
-    """What an instruction reads and writes, in a line; of one that ran with what it left in general registers and in EFLAGS."""
+    """A line with what an instruction reads and writes; for one that ran, with the values that it left in general registers and in EFLAGS."""
     told = instr.effects()
     eflags = None
     if ran:
@@ -311,15 +313,15 @@ def effects_text(instr, ran):
 class ListCommand(gdb.Command):
     """List code of the inferior: feddurzai-list [/COUNT] [START [LENGTH]] [intel|att|masm].
 
-    With no LENGTH it is the function at START, and with no START that at $pc. /COUNT lists so many instructions. With `set feddurzai-effects
-    on` it says what the instruction that ran last read and wrote, and with `all` what each reads and writes."""
+    Without LENGTH it lists the function at START, and without START the function at $pc. /COUNT lists so many instructions. With `set
+    feddurzai-effects on` it reports what the instruction that ran last has read and written, and with `all` what each reads and writes."""
 
     def __init__(self):
         super().__init__("feddurzai-list", gdb.COMMAND_DATA, gdb.COMPLETE_EXPRESSION)
 
     def invoke(self, words, from_tty):
         asked = Asked(words, "feddurzai-list [/COUNT] [START [LENGTH]] [intel|att|masm]", True)
-        # an address of GDB's, which 16-bit code may have above its own 65,536
+        # GDB's addresses, which for 16-bit code may exceed 65,535
         pc, address = pc_now(), asked.start
         ran = last_run() if EFFECTS.value == "on" else None
         at = STOPS.before[1] if ran else None
@@ -336,20 +338,20 @@ class ListCommand(gdb.Command):
         else:
             if asked.faults:
                 print(asked.fault())
-        # it stands elsewhere
+        # the instruction that ran last is outside the list
         if ran:
             self.tell(ran, at, " >", asked.style)
             print(effects_text(ran, True))
 
     def tell(self, item, address, mark, style):
-        """A line of the listing."""
+        """Prints a line of the listing."""
         print(f"{mark} {address:#x}{symbol_of(address)}: {item.bytes.hex():30} {text_of(item, style)}")
 
 
 class FlowCommand(gdb.Command):
     """List what control reaches, block by block: feddurzai-flow [START [LENGTH]] [intel|att|masm].
 
-    With no LENGTH it is the function at START, and with no START that at $pc."""
+    Without LENGTH it lists the function at START, and without START the function at $pc. Indirect jumps are not followed."""
 
     def __init__(self):
         super().__init__("feddurzai-flow", gdb.COMMAND_DATA, gdb.COMPLETE_EXPRESSION)

@@ -1,23 +1,23 @@
 #!/usr/bin/env python3
-"""Puts the AT&T texts of a listing through the GNU assembler and compares the bytes that come back.
+"""Passes the AT&T texts of a listing through the GNU assembler and compares the resulting bytes.
 
     tools/assemble_listing.py 64 code.bin [PROGRAM]
     tools/assemble_listing.py 64 code.bin --listing listing.txt
 
-The listing is what PROGRAM (else the repository's built listing_program) writes for `list BITS 0 att` over the file, or the file that is named.
-Each text goes to `as` on a line of its own; single bytes (`.byte`) are left out. Two numbers are written anew, since the assembler would place
-them elsewhere: the target of a near branch, and the address of an operand relative to RIP or EIP. Both are absolute in the listing and become
-`.` plus the distance from the instruction's address, so of them the distance is compared and not the digits.
+The listing is the output of PROGRAM (by default the repository's built listing_program) for `list BITS 0 att` over the file, or the file that
+--listing names. Each text goes to `as` on a line of its own; single bytes (`.byte`) are left out. Two numbers are rewritten, because the assembler
+would resolve them differently: the target of a near branch, and the address of an operand relative to RIP or EIP. Both are absolute in the listing
+and become `.` plus the distance from the instruction's address. So their distances are compared and not their digits.
 
-Bytes that differ go to objdump, with those of the file at the same places. The kinds:
+Bytes that differ go to objdump, with those of the file at the same places. The kinds of results:
 
     same bytes
-    same instruction, same or other length    objdump shows both alike, but for spellings that the assembler chooses (`folded`, below)
-    same but for idle prefixes                objdump shows both alike once words such as data16, cs or rex.W in front are left out
-    refused                                   the assembler makes nothing of the text: by its message, a name that is not its own or another cause
+    same instruction, same or other length    objdump shows both alike, except for spellings that the assembler chooses (`folded`, below)
+    same but for idle prefixes                objdump shows both alike without leading words such as data16, cs or rex.W
+    refused                                   the assembler refuses the text: by its message, for a name that is not its own or another cause
     different                                 another instruction
 
-Needs Debian's binutils. Nothing rests on this script.
+The script needs Debian's binutils. No proof depends on it.
 """
 import argparse
 import collections
@@ -34,14 +34,14 @@ MACHINES = {"16": (["-m", "i8086"], "--32"), "32": (["-m", "i386"], "--32"), "64
 NEAR = re.compile(r"^(.*\b(?:j[a-z]+|call|loop[a-z]*) )(0x[0-9a-f]+)$")
 RELATIVE = re.compile(r"(?<![\w$])(0x[0-9a-f]+)(\(%[re]ip\))")
 PREFIX_WORDS = {"lock", "rep", "repne", "es", "cs", "ss", "ds", "fs", "gs", "a16", "a32", "a64", "o16", "o32", "o64"}
-# words in front of a text of objdump; a segment or an address size that a memory operand uses stands at the operand instead
+# words before a text of objdump; objdump shows a segment or an address size that a memory operand uses at the operand instead
 PREFIX = re.compile(r"(?:(?:data16|data32|addr16|addr32|cs|ds|es|ss|fs|gs|lock|repz|repnz|rex(?:\.[WRXB]+)?)(?: ;)? )+")
 
 Item = collections.namedtuple("Item", "code text source moved")
 
 
 def distance(bits, target, address):
-    """`.` plus the way from an address to another, which wraps."""
+    """`.` plus the distance from an address to another, which wraps."""
     span = 1 << int(bits)
     way = (int(target, 16) - address) % span
     way = way - span if way >= span // 2 else way
@@ -61,7 +61,7 @@ def item_of(bits, line):
 
 
 def assemble(bits, items, folder):
-    """The bytes of each item as the assembler makes them, or its message."""
+    """The bytes of each item by the assembler, or its message."""
     messages = {}
     while True:
         lines = [f".code{bits}", ".text"]
@@ -85,7 +85,7 @@ def assemble(bits, items, folder):
         if ran.returncode == 0:
             break
         if not errors:
-            sys.exit(f"as: {ran.stderr}")
+            sys.exit(f"assemble_listing.py: as failed: {ran.stderr}")
     for section in ("text", "lengths"):
         command = ["objcopy", "-O", "binary", "--set-section-flags", f".{section}=alloc,contents", f"--only-section=.{section}"]
         subprocess.run([*command, f"{folder}/texts.o", f"{folder}/{section}"], check=True)
@@ -96,7 +96,7 @@ def assemble(bits, items, folder):
 
 
 def shown(bits, codes, folder):
-    """What objdump shows of each of some byte strings."""
+    """The text of objdump for each byte string."""
     if not codes:
         return []
     with open(f"{folder}/codes", "wb") as file:
@@ -113,8 +113,8 @@ def shown(bits, codes, folder):
 
 
 def folded(text):
-    """A text of objdump without what the assembler chooses: a displacement of 0, an index that is none, the distance beside an address that is
-    shown, the order of registers in XCHG and TEST, and the byte of a shift by 1. NOP with 66 is an XCHG to objdump."""
+    """A text of objdump without the assembler's choices: a displacement of 0, an index that means none, the distance beside an address,
+    the order of registers in XCHG and TEST, and the byte of a shift by 1. objdump shows NOP with 66 as an XCHG."""
     text = re.sub(r"\bxchg %ax,%ax$", "data16 nop", text)
     text = re.sub(r"-?0x[0-9a-f]+(\(%[re]ip\).*# 0x)", r"\1", text)
     text = re.sub(r"-0x([0-9a-f]+)\(,%riz,\d\)", lambda it: hex(2**64 - int(it.group(1), 16)), text)
@@ -127,7 +127,7 @@ def folded(text):
 
 
 def without_idle(text):
-    """The same without the words in front that change nothing: an address size counts before LOOP, a repeat before a string instruction."""
+    """A text without leading words that change nothing. An address size counts before LOOP, and a repeat before a string instruction."""
     front = PREFIX.match(text)
     if not front:
         return text
@@ -206,10 +206,10 @@ def main():
     moved = collections.Counter()
     for item in items:
         moved[item.moved] += number[item]
-    print(f"{len(lines)} items, {len(lines) - total} single bytes left out, {total} instructions, {len(items)} unlike one another")
+    print(f"{len(lines)} items, {len(lines) - total} single bytes left out, {total} instructions, {len(items)} different ones")
     print(f"{moved['near target']} near targets and {moved['relative address']} addresses relative to RIP or EIP written as distances")
     for kind in ("refused", "different"):
-        print(f"{sum(n for it, n in counts.items() if it.startswith(kind)):9} {kind}, of all names")
+        print(f"{sum(n for it, n in counts.items() if it.startswith(kind)):9} {kind}, in total")
     for kind, n in counts.most_common():
         print(f"{n:9} {kind}")
         for example in examples[kind]:

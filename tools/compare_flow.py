@@ -1,15 +1,15 @@
 #!/usr/bin/env python3
-"""Compares what `flow` reaches in the text of an ELF program with objdump's listing.
+"""Compares the offsets that `flow` reaches in the text of an ELF program with objdump's listing.
 
 usage: tools/compare_flow.py PROGRAM ELF [SYMBOL]
 
-PROGRAM is the program of this repository, ELF a 64-bit executable. Control is
-followed from the entry of ELF, or from SYMBOL. So that all of the text (of a long
-one the mebibyte around the entry) can be reached, a jump to the entry stands before
-it. Each reached offset has to be an instruction's start in the listing by objdump,
-or to stand behind its LOCK: where there is one thread, glibc jumps over that byte.
-Prints how many are reached, and how many of the targets of direct branches in the
-listing are among them. Ends with status 1 where a reached offset is no start.
+PROGRAM is the built listing_program, and ELF a 64-bit executable. Control is followed
+from the entry of ELF, or from SYMBOL. The script prepends a jump to the entry, so that
+all of the text can be reached (of a long one, the mebibyte around the entry). Each
+reached offset must be the start of an instruction in objdump's listing, or follow its
+LOCK: with one thread, glibc jumps over that byte. The script prints the number of
+reached offsets, and how many targets of direct branches in the listing are among them.
+The exit status is 1 if a reached offset is not the start of an instruction.
 """
 import re
 import struct
@@ -25,13 +25,13 @@ def output(*command, data=None):
 
 
 def entry_of(elf, words):
-    """The address at which control begins."""
+    """The address of the entry, or of the symbol."""
     if words:
         for line in output("nm", "--defined-only", elf).decode().splitlines():
             address, _, name = line.split(maxsplit=2)
             if name == words[0]:
                 return int(address, 16)
-        sys.exit(f"{elf} has no symbol {words[0]}")
+        sys.exit(f"compare_flow.py: {elf} has no symbol {words[0]}: run nm --defined-only {elf} for a list")
     found = re.search(r"Entry point address:\s+0x([0-9a-f]+)", output("readelf", "-h", elf).decode())
     return int(found.group(1), 16)
 
@@ -45,7 +45,7 @@ def text_of(elf):
 
 
 def listing_of(elf, low, high):
-    """The instructions' starts by objdump between two addresses, the places behind a LOCK, and the targets of direct branches there."""
+    """The starts of instructions between two addresses by objdump, the addresses after a LOCK, and the targets of direct branches there."""
     starts, locked, targets = set(), set(), set()
     options = ["-d", "-j", ".text", "--no-show-raw-insn", f"--start-address={low}", f"--stop-address={high}"]
     for line in output("objdump", *options, elf).decode().splitlines():
@@ -78,10 +78,10 @@ def main(words):
     wrong = sorted(set(reached) - starts - locked)
     unread = sum(1 for word in reached.values() if word in ("invalid", "too short"))
     print(f"{len(code)} bytes from {low:#x}, entry {entry:#x}")
-    print(f"{len(reached)} offsets are reached of {len(starts)} instructions; no instruction is read at {unread}")
+    print(f"{len(reached)} offsets are reached, of {len(starts)} instructions; at {unread} of them no instruction begins")
     print(f"{len(targets & set(reached))} of {len(targets)} targets of direct branches are reached")
-    print(f"{len(behind_lock)} reached offsets stand behind the LOCK of an instruction")
-    print(f"{len(wrong)} other reached offsets are no instruction's start")
+    print(f"{len(behind_lock)} reached offsets follow the LOCK of an instruction")
+    print(f"{len(wrong)} other reached offsets are not the start of an instruction")
     for at in wrong[:20]:
         print(f"  {at:#x} {reached[at]}")
     sys.exit(1 if wrong else 0)

@@ -1,12 +1,15 @@
 #!/usr/bin/env python3
-"""Compares what the library says that instructions touch with Zydis: registers, memory, flags and features.
+"""Compares what the library reports that instructions touch with Zydis: registers, memory, flags and features.
 
-    tools/compare_info.py --write LINES           the instructions of each row, mode and form, a line each
-    tools/compare_info.py ANSWERS                 compares; ANSWERS is what the program info_lines writes of these lines
-    tools/compare_info.py --llvm ANSWERS          the same with LLVM, which has registers alone, EFLAGS among them
+    tools/compare_info.py               compares an instruction of each row, mode and form with Zydis
+    tools/compare_info.py --llvm        compares the registers with LLVM, which has EFLAGS among them
 
-Debian's packages libzydis-dev and llvm-14-dev have both; a compiler of C or C++ is needed too. Each difference is of one of the kinds that docs/instruction-info.md lists, or it
-is printed, and the exit status is 1. Nothing rests on this script.
+Setup: the script uses the Python package in capi/python over the shared library. Build the library by `capi/build.sh`, which writes
+capi/out/libfeddurzai.so, or set the environment variable FEDDURZAI_LIBRARY to the file of a built one. Zydis and a C compiler are needed
+(Debian: libzydis-dev, gcc), or with --llvm LLVM 14 and a C++ compiler (Debian: llvm-14-dev, g++).
+
+The script counts the differences by the kinds that docs/instruction-info.md lists. It prints each difference of no kind, and then ends with
+status 1. No proof depends on this script.
 """
 import argparse
 import collections
@@ -20,35 +23,16 @@ sys.dont_write_bytecode = True
 from info.kinds import KINDS  # noqa: E402
 from info.llvm_kinds import KINDS as LLVM_KINDS  # noqa: E402
 from info.samples import samples  # noqa: E402
-from tables.effects import ACCESS, FEATURES, FLAGS  # noqa: E402
+from tables.effects import ACCESS, FLAGS  # noqa: E402
 from tables.entries import read_all  # noqa: E402
 from tables.rows import table_of  # noqa: E402
 
 HERE = os.path.dirname(os.path.abspath(__file__))
+PACKAGE = os.path.join(os.path.dirname(HERE), 'capi', 'python')
 
 # ------------------------------------------------------------------ ours
 
-LOW = ['al', 'cl', 'dl', 'bl', 'spl', 'bpl', 'sil', 'dil'] + [f'r{n}b' for n in range(8, 16)]
-GENERAL = ['ax', 'cx', 'dx', 'bx', 'sp', 'bp', 'si', 'di']
 BITS = {'Read': 1, 'Write': 2, 'ReadWrite': 3, 'ConditionalRead': 4, 'ConditionalWrite': 8, 'ConditionalReadWrite': 12, 'ReadConditionalWrite': 9}
-
-
-def register(text):
-    """The name of a register that is written as its variant."""
-    m = re.match(r'^(\w+)(?:\((\w+)\))?$', text)
-    kind, inner = m[1], m[2]
-    if kind == 'Seg':
-        return inner.lower()
-    if kind in ('Rip', 'Eip'):
-        return kind.lower()
-    n = int(inner)
-    if kind == 'Low8':
-        return LOW[n]
-    if kind == 'High8':
-        return ['ah', 'ch', 'dh', 'bh'][n]
-    if kind in ('R16', 'R32', 'R64'):
-        return {'R16': '', 'R32': 'e', 'R64': 'r'}[kind] + GENERAL[n] if n < 8 else f'r{n}' + {'R16': 'w', 'R32': 'd', 'R64': ''}[kind]
-    return kind.lower() + str(n)
 
 
 def sets_of(numbers, flags=FLAGS):
@@ -56,7 +40,7 @@ def sets_of(numbers, flags=FLAGS):
 
 
 class Answer:
-    """Registers with what is done to each, memory, six sets of flags, and features."""
+    """Registers with their accesses, memory, six sets of flags, and features."""
 
     def __init__(self):
         self.registers, self.memory, self.flags, self.features = collections.Counter(), [], None, None
@@ -65,32 +49,37 @@ class Answer:
         self.registers[reg] |= bits
 
 
-def our_answer(bits, text):
-    """The code and the answer of a line of info_lines, behind its bytes."""
-    head, registers, memory, flags, features = [part.split() for part in text.split(';')]
+def our_answer(feddurzai, bits, code):
+    """The library's report of the instruction at the front of some bytes, None if none begins there."""
+    try:
+        instr = feddurzai.decode(bits, 0, code)
+    except (feddurzai.InvalidCode, feddurzai.TooShort):
+        return None
+    touched = instr.effects()
     answer = Answer()
-    answer.name, answer.code = head[0], int(head[1])
+    answer.name, answer.code = instr.name, instr.code
+    # a memory use reads its segment register, which Zydis and LLVM leave out
     segments = collections.Counter()
-    for use in ' '.join(memory).split('|')[1:]:
-        segment, base, index, scale, disp, size, access = use.split()
-        segments[segment.lower()] += bits != 64 or segment in ('Fs', 'Gs')
-        answer.memory.append((segment.lower(), '-' if base == '-' else register(base), '-' if index == '-' else register(index), int(scale), int(disp),
-            int(size), BITS[access]))
-    for use in registers:
-        reg, access = use.rsplit(':', 1)
-        reg = register(reg)
-        if reg in segments and segments[reg] and access in ('Read', 'ConditionalRead'):
+    for use in touched.memory:
+        segment = use.segment.name.lower()
+        segments[segment] += bits != 64 or segment in ('fs', 'gs')
+        base, index = ('-' if reg is None else str(reg) for reg in (use.base, use.index))
+        answer.memory.append((segment, base, index, use.scale, use.displacement, use.size, int(use.access)))
+    for use in touched.registers:
+        reg, access = str(use.register), int(use.access)
+        if segments[reg] and access in (BITS['Read'], BITS['ConditionalRead']):
             segments[reg] -= 1
             continue
-        answer.touch(reg, BITS[access])
-    answer.flags = sets_of(int(n) for n in flags)
-    answer.features = {name for k, name in enumerate(FEATURES) if int(features[0]) >> k & 1}
+        answer.touch(reg, access)
+    flags = (touched.flags_read, touched.flags_written, touched.flags_cleared, touched.flags_set, touched.flags_undefined, touched.flags_kept)
+    answer.flags = sets_of(map(int, flags))
+    answer.features = set(touched.features)
     return answer
 
 
 # ------------------------------------------------------------------ theirs
 
-# registers that the library has no name for
+# registers that the library does not name
 NAMELESS = re.compile(r'^(rip|eip|ip|flags|eflags|rflags|x87\w+|mxcsr|gdtr|idtr|ldtr|tr|xcr0|tsc|pkru|msr\w*|bnd\w*|uif|ssp|-)$')
 CPU_BITS = FLAGS
 FPU = {'C0': 1, 'C1': 2, 'C2': 4, 'C3': 8}
@@ -110,7 +99,7 @@ def their_answer(text):
             for reg in (base, index):
                 if reg != '-' and (not NAMELESS.match(reg) or reg in ('rip', 'eip')):
                     answer.touch(reg, 1)
-            if mem_type not in ('2', '3') and int(actions):   # an address that is only computed
+            if mem_type not in ('2', '3') and int(actions):   # not an address that is only computed
                 answer.memory.append((segment, base, index, int(scale) or 1, int(disp), int(size) // 8, int(actions)))
         else:
             for n, word in enumerate(words):
@@ -123,7 +112,7 @@ def their_answer(text):
     return answer
 
 
-# the sets of instructions that Zydis names, as features; those not here are of each processor
+# the instruction sets that Zydis names, as features; the empty ones are in every processor
 ISA = {'I86': '', 'I186': '', 'I286PROTECTED': '', 'I286REAL': '', 'I386': '', 'I486': '', 'I486REAL': '', 'I2186': '', 'LONGMODE': '', 'FAT_NOP': '', 'PAUSE': '', 'PPRO': '',
     'PPRO_UD0_LONG': '', 'PPRO_UD0_SHORT': '', 'LAHF': '', 'PREFETCH_NOP': '', 'RDPMC': '', 'SSE_PREFETCH': 'SSE', 'PENTIUMREAL': 'CX8', 'PENTIUMMMX': 'MMX', 'X87': 'FPU', 'FCMOV': 'FPU CMOV', 'FXSAVE': 'FXSR',
     'FXSAVE64': 'FXSR', 'CMOV': 'CMOV', 'SSE': 'SSE', 'SSE2': 'SSE2', 'SSE2MMX': 'SSE2', 'SSEMXCSR': 'SSE', 'SSE3': 'SSE3', 'SSE3X87': 'FPU SSE3', 'SSSE3': 'SSSE3',
@@ -136,7 +125,7 @@ FLAG_WORDS = ['read', 'written', 'cleared', 'set', 'undefined']
 
 
 def differences(bits, ours, theirs):
-    """The aspects in which two answers differ: a word, what we say and what they say."""
+    """Yields the aspects in which two answers differ: a word, our value and theirs."""
     names = set(ours.registers) | set(theirs.registers)
     for reg in sorted(names):
         a, b = ours.registers[reg], theirs.registers[reg]
@@ -167,10 +156,10 @@ def words(bits):
 
 # ------------------------------------------------------------------ LLVM
 
-# registers that the library has no name for, or tells otherwise: the place of control, and the index that a SIB names as none
+# registers that the library does not name or reports otherwise: the instruction pointer, and the index of a SIB that means none
 LLVM_NAMELESS = re.compile(r'^(rip|eip|ip|eiz|riz|mxcsr|fpcw|fpsw|ssp|_)$')
 LLVM_SEGMENTS = {'es', 'cs', 'ss', 'ds', 'fs', 'gs'}
-# EFLAGS but DF, which is a register of its own there
+# EFLAGS without DF, which is a register of its own there
 EFLAGS = {name for name in FLAGS if not name.startswith('C') or name == 'CF'} - {'DF'}
 
 
@@ -186,7 +175,7 @@ def llvm_answer(text):
 
 
 def llvm_differences(bits, ours, theirs):
-    """The registers of which two answers say something else: a condition is none to LLVM, and an address names its segment where a prefix does."""
+    """Yields the registers in which two answers differ. LLVM has no conditions, and an address names its segment only if a prefix does."""
     mine = collections.Counter({reg: access & 3 | access >> 2 for reg, access in ours.registers.items()})
     for name, flags in (('eflags', EFLAGS), ('df', {'DF'})):
         read, written = ours.flags[0] & flags, (ours.flags[1] | ours.flags[4]) & flags
@@ -228,43 +217,38 @@ def kind_of(kinds, row, aspect, ours, theirs):
 
 def main():
     parser = argparse.ArgumentParser(description=__doc__, formatter_class=argparse.RawDescriptionHelpFormatter)
-    parser.add_argument('--write', metavar='LINES')
     parser.add_argument('--all', action='store_true', help='print the differences of each kind too')
-    parser.add_argument('--llvm', action='store_true', help='compare with LLVM')
-    parser.add_argument('answers', nargs='?')
+    parser.add_argument('--llvm', action='store_true', help='compare with LLVM instead of Zydis')
     args = parser.parse_args()
+    sys.path.insert(0, PACKAGE)
+    try:
+        import feddurzai
+    except ImportError as missing:
+        sys.exit(f'compare_info.py: {missing}')
     table = table_of(read_all())
     rows = {}
     for row in table:
         for bits, code in samples(row):
             rows.setdefault(f'{bits} {bytes(code).hex()}', row)
-    if args.write:
-        with open(args.write, 'w') as file:
-            file.write('\n'.join(rows) + '\n')
-        print(f'{len(rows)} instructions of {len(table)} rows')
-        return 0
-    with open(args.answers) as file:
-        answers = file.read().splitlines()
     ask, read, compare, named = (llvm_lines, llvm_answer, llvm_differences, LLVM_KINDS) if args.llvm else (their_lines, their_answer, differences, KINDS)
-    theirs = {' '.join(line.split()[:2]): line for line in ask([' '.join(line.split()[:2]) for line in answers])}
+    theirs = {' '.join(line.split()[:2]): line for line in ask(list(rows))}
     kinds, open_, agree, seen = collections.Counter(), collections.OrderedDict(), 0, set()
     shown, unread = collections.defaultdict(collections.OrderedDict), collections.Counter()
-    for line in answers:
-        key = ' '.join(line.split()[:2])
-        row, text = rows[key], theirs[key]
-        mine = line[len(key):]
+    for key, row in rows.items():
+        text = theirs[key]
         if args.llvm and (text.endswith('invalid') or key.startswith('16 ') and row.kind == 'Legacy' and row.cls == 'P66'):
             unread[row.name] += 1
             continue
-        if text.endswith('invalid') or mine.strip() == 'invalid':
-            found = [('length', mine.strip()[:20], text[len(key):][:20])] if mine.strip() != 'invalid' or not text.endswith('invalid') else []
+        bits, code = int(key.split()[0]), bytes.fromhex(key.split()[1])
+        ours = our_answer(feddurzai, bits, code)
+        if text.endswith('invalid') or ours is None:
+            word = 'invalid' if ours is None else f'{ours.name} {ours.code}'
+            found = [] if ours is None and text.endswith('invalid') else [('length', word, text[len(key):][:20])]
+        elif table[ours.code] is not row:
+            found = [('row', ours.name, row.name)]
         else:
-            ours = our_answer(int(key.split()[0]), mine)
-            if table[ours.code] is not row:
-                found = [('row', ours.name, row.name)]
-            else:
-                seen.add(ours.code)
-                found = list(compare(int(key.split()[0]), ours, read(text[len(key):])))
+            seen.add(ours.code)
+            found = list(compare(bits, ours, read(text[len(key):])))
         agree += not found
         for aspect, a, b in found:
             kind = kind_of(named, row, aspect, str(a), str(b))
@@ -272,16 +256,16 @@ def main():
             if kind:
                 kinds[kind] += 1
             group.setdefault((row.name, aspect, str(a), str(b)), []).append(key)
-    print(f'{len(answers) - sum(unread.values())} instructions of {len(seen)} rows; {agree} agree in all')
+    print(f'{len(rows) - sum(unread.values())} instructions of {len(seen)} rows; {agree} agree in everything')
     if unread:
-        print(f'{sum(unread.values())} are not read there: {" ".join(sorted(unread))}')
+        print(f'{sum(unread.values())} instructions are left out, which LLVM does not decode, or decodes with another operand size: {" ".join(sorted(unread))}')
     for kind, _ in named:
         print(f'  {kinds[kind]:6d} {kind}')
         if args.all:
             for (name, aspect, a, b), keys in shown[kind].items():
-                print(f'           {name}: {aspect}: ours {a}, theirs {b}: {len(keys)}, as {keys[0]}')
+                print(f'           {name}: {aspect}: ours {a}, theirs {b}: {len(keys)}, such as {keys[0]}')
     for (name, aspect, a, b), keys in open_.items():
-        print(f'{name}: {aspect}: ours {a}, theirs {b}: {len(keys)}, as {keys[0]}')
+        print(f'{name}: {aspect}: ours {a}, theirs {b}: {len(keys)}, such as {keys[0]}')
     print(f'{sum(len(keys) for keys in open_.values())} differences of no kind')
     return 1 if open_ else 0
 

@@ -3,10 +3,10 @@
 
     tools/compare_listing.py BITS CODE LISTING
 
-CODE is a file of raw code, LISTING what the program writes for `list BITS 0 intel` over it. At each item of the listing Capstone reads the same bytes at the same address. Lengths and names are compared; a single byte of the listing
-agrees where Capstone reads nothing there. Names differ by convention in a few places (a pseudo-name for a compare with a constant, `movabs`,
-string instructions with their size letter): these are folded first. What is left over is counted by kind, with a few examples of each.
-Debian's package python3-capstone has the library. Nothing rests on this script.
+CODE is a file of raw code, and LISTING the output of listing_program for `list BITS 0 intel` over it. At each item of the listing, Capstone decodes the
+same bytes at the same address. Lengths and names are compared. A single byte of the listing agrees if Capstone decodes nothing there. A few names differ
+by convention (a pseudo-name for a compare with a constant, `movabs`, string instructions with their size letter) and are mapped to one name first. The
+other differences are counted by kind, with a few examples of each. The script needs Capstone (Debian: python3-capstone). No proof depends on it.
 """
 import collections
 import re
@@ -20,7 +20,7 @@ import capstone  # noqa: E402
 MODES = {"16": capstone.CS_MODE_16, "32": capstone.CS_MODE_32, "64": capstone.CS_MODE_64}
 PREFIX_WORDS = {"lock", "rep", "repe", "repz", "repne", "repnz", "es", "cs", "ss", "ds", "fs", "gs", "a16", "a32", "a64", "o16", "o32", "o64",
                 "xacquire", "xrelease", "bnd", "notrack", "data16", "addr32"}
-# names of one instruction: Capstone's on the left
+# two names of one instruction, with Capstone's on the left
 ALIASES = {"movabs": "mov", "ljmp": "jmpf", "lcall": "callf", "retf": "retf", "lret": "retf", "pushaw": "pusha", "pushal": "pushad",
            "popaw": "popa", "popal": "popad", "iretw": "iret", "cwde": "cwde", "wait": "wait", "fwait": "wait", "xlatb": "xlat",
            "sal": "shl", "ud2b": "ud1", "ud0": "ud0", "fstenv": "fnstenv", "int1": "int1", "int3": "int3", "salc": "salc", "pushfw": "pushf", "popfw": "popf",

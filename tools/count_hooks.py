@@ -1,32 +1,43 @@
 #!/usr/bin/env python3
-"""What of a library each jump of a hook can be written over, and why not the rest.
+"""Counts the functions of a library that each jump of a hook can overwrite, and why it cannot overwrite the others.
 
-    PYTHONPATH=capi/python tools/count_hooks.py [FILE]
+    tools/count_hooks.py [FILE]
 
-FILE is an ELF file of x86-64 with symbols of functions; where none is named it is the C library. Each function that has a size is given to
-`feddurzai.detour` whole, as the file has it, three times: with the replacement near it, with the trampoline near it and the replacement far,
-and with both far. Two symbols at one address count once. It prints a table, as docs/hooks.md has it. It wants pyelftools and the shared
-library of capi/build.sh.
+FILE is an ELF file for x86-64 with symbols of functions, by default the C library. The script passes each function with a size to
+`feddurzai.detour`, three times: with the replacement near it, with the trampoline near it and the replacement far, and with both far. Two symbols
+at one address count once. It prints the table of docs/hooks.md.
+
+The script uses the Python package in capi/python over the shared library: run capi/build.sh, or set the environment variable FEDDURZAI_LIBRARY to
+the file of a built library. It also needs pyelftools (Debian: python3-pyelftools).
 """
 
+import os
 import sys
 from collections import Counter
 from typing import Dict, Iterator, NamedTuple, Tuple
 
-from elftools.elf.elffile import ELFFile
+if "--help" in sys.argv or "-h" in sys.argv:
+    print(__doc__.strip())
+    sys.exit(0)
 
-import feddurzai
-from feddurzai import DetourForm, Reason, Refusal
+sys.path.insert(0, os.path.join(os.path.dirname(os.path.dirname(os.path.abspath(__file__))), "capi", "python"))
+try:
+    from elftools.elf.elffile import ELFFile
+
+    import feddurzai
+    from feddurzai import DetourForm, Reason, Refusal
+except ImportError as missing:
+    sys.exit(f"count_hooks.py: {missing} (--help says what the script needs)")
 
 FAR = 0x7FFF_0000_0000
-# with each form: where the replacement and the trampoline stand, behind the function or at an address of their own
+# for each form, the offsets from the function, or the addresses, of the replacement and of the trampoline
 LAYOUTS = {
     "5 bytes, the replacement near": (DetourForm.NEAR, (0x1000_0000, None), (0x1100_0000, None)),
     "5 bytes, by a relay": (DetourForm.RELAY, (None, FAR), (0x1100_0000, None)),
     "14 bytes": (DetourForm.ABSOLUTE, (None, FAR), (None, FAR + 0x1000_0000)),
 }
 WORDS = {
-    Reason.SMALL: "too small for the jump",
+    Reason.SMALL: "smaller than the jump",
     Reason.ENDS: "ends before, and other code follows",
     Reason.ENTERED: "entered from elsewhere",
     Reason.INVALID: "a byte where no instruction begins",
@@ -67,7 +78,7 @@ def main() -> None:
     with open(path, "rb") as file:
         elf = ELFFile(file)
         if elf["e_machine"] != "EM_X86_64":
-            sys.exit(f"count_hooks.py: {path} is no x86-64 code")
+            sys.exit(f"count_hooks.py: {path} is an ELF file for {elf['e_machine']}, not for x86-64")
         functions = list(functions_of(elf))
     print(f"{path}: {len(functions)} functions\n")
     hooked, refused = Counter(), {jump: Counter() for jump in LAYOUTS}

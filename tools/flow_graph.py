@@ -1,18 +1,17 @@
 #!/usr/bin/env python3
-"""Draws the basic blocks of some code from what the program wrote of it.
+"""Draws the basic blocks of some code from the output of listing_program.
 
 usage: tools/flow_graph.py FLOW LIST [SVG]
 
-FLOW is a file with the output of `flow BITS BASE`, LIST one with the output of
-`list BITS BASE intel` over the same bytes. The graph goes to standard output in
-DOT. With SVG it is also laid out by Graphviz, if that is installed, and written
-to the file SVG.
+FLOW is a file with the output of `flow BITS BASE`, and LIST one with the output of
+`list BITS BASE intel` over the same bytes. The graph is written to standard output in
+the DOT language. With SVG it is also laid out by Graphviz, if that is installed, and
+written to the file SVG.
 
-A box is a basic block. Edges: green where a conditional branch is taken, red
-where it is not, blue for a jump, black where control goes on, dashed for a call.
-An instruction that overlaps others may not stand in the listing, which goes
-through the bytes one after another: its text and where it ends are not known
-then, and its box has a dashed border.
+A box is a basic block. Edges are green for a taken conditional branch, red for one that
+is not taken, blue for a jump, black if control continues, and dashed for a call. An
+instruction that overlaps others may be missing from the listing, which goes through the
+bytes in order. Then its text and its end are unknown, and its box has a dashed border.
 """
 import re
 import shutil
@@ -26,14 +25,14 @@ COLOURS = {
     "next": 'color="black"',
     "call": 'color="gray40" style="dashed"',
 }
-# The flows behind which control may go on at the end of the instruction.
+# The flows after which control may continue at the end of the instruction.
 GOES_ON = {"Next", "Call", "IndirectCall", "Interrupt"}
 # The edge to the near target of an instruction, by its flow.
 TO_TARGET = {"UnconditionalBranch": "jump", "ConditionalBranch": "taken", "Call": "call"}
 
 
 class Instruction:
-    """A reached instruction: its address and flow, and what the listing says."""
+    """A reached instruction: its address and flow, and its length and text by the listing."""
 
     def __init__(self, address, flow, listed):
         self.address = address
@@ -41,7 +40,7 @@ class Instruction:
         self.length, self.text = listed if listed else (None, None)
 
     def line(self, width):
-        """The line of the box, with the address in so many places."""
+        """The line of the box, with the address in so many digits."""
         text = self.text if self.text is not None else "(not in the listing)"
         if self.flow in ("invalid", "too short"):
             text += f"  ({self.flow})"
@@ -107,7 +106,7 @@ def dot(blocks, digits):
         followers = {i.address for i in instructions[1:]}
         for instruction in instructions:
             for target, kind in instruction.edges(space):
-                # The way to a follower is the line below. An edge into nothing leaves the code.
+                # The edge to a follower is the next line of the box. An edge to no block leaves the code.
                 if target in blocks and target not in followers:
                     lines.append(f"  b{leader:x} -> b{target:x} [{COLOURS[kind]}];")
     lines.append("}")
@@ -122,7 +121,7 @@ def main(words):
     sys.stdout.write(graph)
     if len(words) == 3:
         if not shutil.which("dot"):
-            sys.exit("no SVG was written: Graphviz is not installed")
+            sys.exit(f"flow_graph.py: {words[2]} was not written: install Graphviz, which has the command dot")
         subprocess.run(["dot", "-Tsvg", "-o", words[2]], input=graph, text=True, check=True)
 
 

@@ -1,26 +1,26 @@
 #!/usr/bin/python3
-"""Puts the Intel texts of a listing through NASM and compares the bytes that come back.
+"""Passes the Intel texts of a listing through NASM and compares the resulting bytes.
 
     nasm_texts.py 64 code.bin [PROGRAM]
     nasm_texts.py 64 code.bin --listing listing.txt
 
-The listing is what PROGRAM (else the repository's built listing_program) writes for `list BITS 0 intel` over the file, or the file that is named. Its texts go
-to NASM in their order, behind three lines:
+The listing is the output of PROGRAM (by default the repository's built listing_program) for `list BITS 0 intel` over the file, or the file that --listing names.
+Its texts go to NASM in their order, after three lines:
 
     %define xmmword oword
     %define ymmword yword
     %define tbyte tword
 
-Two numbers are written anew. NASM takes a near target that is a plain number for one far away and writes it in its longest form, and it takes `[rel 0x1007]` with a
-plain number for `[0x1007]`. So both become `$` plus the distance from the instruction's address, and of them the distance is compared and not the digits.
-`--as-they-stand` leaves them. Bytes that differ go to the listing again, at the address of the instruction. The kinds:
+Two numbers are rewritten. NASM encodes a near target that is a plain number in the longest form, and it reads `[rel 0x1007]` with a plain number as `[0x1007]`. So
+both become `$` plus the distance from the instruction's address, and their distances are compared and not their digits. `--as-they-stand` leaves them as they are.
+Bytes that differ are listed again, at the address of the instruction. The kinds of results:
 
     same bytes
-    same text        the listing shows the bytes of NASM with the same text: another spelling of the same, shorter, longer or as long
+    same text        the listing shows NASM's bytes with the same text: another spelling of the same, shorter, longer or equally long
     another text     the listing shows them with another text
-    refused          NASM makes nothing of the text
+    refused          NASM refuses the text
 
-Needs Debian's nasm. Nothing rests on this script.
+The script needs Debian's nasm. No proof depends on it.
 """
 import argparse
 import collections
@@ -41,7 +41,7 @@ Item = collections.namedtuple("Item", "address code text source")
 
 
 def distance(bits, target, address):
-    """`$` plus the way from an address to another, which wraps."""
+    """`$` plus the distance from an address to another, which wraps."""
     span = 1 << int(bits)
     way = (int(target, 16) - address) % span
     way = way - span if way >= span // 2 else way
@@ -63,8 +63,8 @@ def items_of(bits, listing, as_they_stand=False):
 
 
 def nasm(lines, folder):
-    """The bytes that NASM makes of each line, and its message for each line that it refuses. Lines count from 1. The list file says where they lie and how many
-    they are; a number in it may not be the final one, so they are read from the code."""
+    """NASM's bytes for each line, and its message for each line that it refuses. Lines count from 1. The list file gives the offset and the number of the bytes;
+    numbers in it may not be final, so the bytes are taken from the code."""
     with open(f"{folder}/texts.asm", "w", encoding="ascii") as file:
         file.write("\n".join(lines) + "\n")
     command = ["nasm", "-f", "bin", "-w-all", "-o", f"{folder}/texts.bin", "-l", f"{folder}/texts.lst", f"{folder}/texts.asm"]
@@ -74,7 +74,7 @@ def nasm(lines, folder):
         messages.setdefault(int(number), message)
     if ran.returncode != 0:
         if not messages:
-            sys.exit(f"nasm: {ran.stderr[:2000]}")
+            sys.exit(f"nasm_texts.py: nasm failed: {ran.stderr[:2000]}")
         return None, messages
     code = open(f"{folder}/texts.bin", "rb").read()
     made = collections.defaultdict(bytes)
@@ -88,7 +88,7 @@ def nasm(lines, folder):
 
 
 def assembled(bits, items, folder):
-    """What NASM makes of each item, or its message."""
+    """NASM's bytes for each item, or its message."""
     messages = {}
     while True:
         lines = NAMES.rstrip().split("\n") + [f"bits {bits}"]
@@ -101,7 +101,7 @@ def assembled(bits, items, folder):
 
 
 def spread(items, chosen):
-    """Items in their order, in groups in which each begins 16 bytes or more behind the one before it."""
+    """Items in their order, in groups in which each begins 16 bytes or more after the one before it."""
     groups = []
     for n in chosen:
         for group in groups:
@@ -114,7 +114,7 @@ def spread(items, chosen):
 
 
 def listed(program, bits, items, chosen, made):
-    """The texts of the listing of what NASM made of some items, each at its address."""
+    """The listing's texts of NASM's bytes for some items, each at its address."""
     texts = {}
     for group in spread(items, chosen):
         base = items[group[0]].address
@@ -147,7 +147,7 @@ def kind_of_refusal(item, message):
 
 
 def main():
-    parser = argparse.ArgumentParser()
+    parser = argparse.ArgumentParser(description=__doc__, formatter_class=argparse.RawDescriptionHelpFormatter)
     parser.add_argument("bits", choices=["16", "32", "64"])
     parser.add_argument("code")
     top = os.path.dirname(os.path.dirname(os.path.abspath(__file__)))
@@ -186,7 +186,7 @@ def main():
                 count(f"same text, {length}: {name_of(item.text)}", item, f" | nasm: {code.hex()}")
             else:
                 count(f"another text: {name_of(item.text)}", item, f" | nasm: {code.hex()}: {shown[n]}")
-    print(f"{len(items)} lines, {len(texts)} texts unlike one another")
+    print(f"{len(items)} lines, {len(texts)} different texts")
     for front_word in ("same text", "another text", "refused"):
         chosen = [it for it in counts if it.startswith(front_word)]
         print(f"{sum(counts[it] for it in chosen):9} {front_word}, of {len(set().union(*[different[it] for it in chosen]))} texts")

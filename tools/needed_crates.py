@@ -1,10 +1,10 @@
 #!/usr/bin/env python3
-"""Lists the crates that a user of the library has to have, by crates.txt.
+"""Lists the crates that a user of the library needs, by crates.txt.
 
-Usage: tools/needed_crates.py [CRATE]     the crates of this repository that CRATE (feddurzai) needs, each behind those that it needs
-       tools/needed_crates.py --kit       those of the kit that they use
+Usage: tools/needed_crates.py [CRATE]     the crates of this repository that CRATE (by default feddurzai) needs, each after those that it needs
+       tools/needed_crates.py --kit       the crates of the kit that they use
        tools/needed_crates.py --lines     their lines of crates.txt
-       tools/needed_crates.py --check     compares the list with that of docs/using-the-library.md; the status is 1 where they differ
+       tools/needed_crates.py --check     compares the list with the one in docs/using-the-library.md; exit status 1 if they differ
 """
 import re
 import sys
@@ -14,12 +14,12 @@ ROOT = Path(__file__).resolve().parent.parent
 PAGE = ROOT / "docs" / "using-the-library.md"
 LIBRARY = "feddurzai"
 
-# the block of the page that has the list
+# the block of the page with the list
 LISTED = re.compile(r"<!-- tools/needed_crates\.py -->\s*```\n(.*?)```", re.DOTALL)
 
 
 def lines():
-    """The lines of crates.txt by the crates that they are of."""
+    """The lines of crates.txt by the names of their crates."""
     found = [line for line in (ROOT / "crates.txt").read_text().splitlines() if line and not line.startswith("#")]
     return {re.split(r"[ :]", line, maxsplit=1)[0]: line for line in found}
 
@@ -30,7 +30,7 @@ def uses(line):
 
 
 def needed(name, by_name):
-    """The crates that a crate needs, each behind those that it needs, and the crate itself; and the kit's that they use."""
+    """The crates that a crate needs, each after those that it needs, then the crate itself; and the kit's crates that they use."""
     order, kit = [], set()
 
     def visit(crate):
@@ -52,7 +52,7 @@ def listed():
 
 
 def main(words):
-    """Prints what is asked for and answers the status."""
+    """Prints the requested list and returns the exit status."""
     if "--help" in words or "-h" in words:
         print(__doc__.strip())
         return 0

@@ -1,13 +1,13 @@
 #!/usr/bin/env python3
-"""Lists where a crate's proofs cite a lemma of another crate of this repository.
+"""Lists the places where a crate's proofs cite a lemma of another crate of this repository.
 
-Usage: tools/proof_layers.py [CRATE ..]     the named crates; without names those whose proofs may use public contracts alone
-       tools/proof_layers.py --others       all other crates
-       tools/proof_layers.py --count        a line for each crate that cites some, and the sum
+Usage: tools/proof_layers.py [CRATE ..]     for the named crates; by default those whose proofs may use only public contracts
+       tools/proof_layers.py --others       for all other crates
+       tools/proof_layers.py --count        prints a line for each crate that cites some, and the sum
 
-A line is `FILE:LINE: CRATE.MODULE {LEMMAS}`. A citation of `Rattle.CRATE.proofs` in an .antt file counts, and so does one of
-`CRATE::proofs` in an attribute of an .rt file; definitions in specs/ and the kit's libraries are fine. The status is 1 where
-a crate that may use contracts alone cites a lemma.
+A line is `FILE:LINE: CRATE.MODULE {LEMMAS}`. Citations of `Rattle.CRATE.proofs` in an .antt file and of `CRATE::proofs` in an
+attribute of an .rt file count. Citations of definitions in specs/ and of the kit's libraries do not. The exit status is 1 if a
+crate that may use only contracts cites a lemma.
 """
 import re
 import sys
@@ -15,7 +15,7 @@ from pathlib import Path
 
 ROOT = Path(__file__).resolve().parent.parent
 
-# their proofs use the public contracts of what is below them, and definitions
+# their proofs use only definitions and the public contracts of the crates below
 BY_CONTRACTS = [
     "branch_sizes", "move_goals", "block_encoder", "code_items", "code_region", "step_slots", "flow_graph", "detour", "byte_ports", "sweep",
     "command_words", "moving_run", "listing_run", "listing_program",
@@ -49,7 +49,7 @@ def citations(name, names):
 
 
 def main(words):
-    """Prints what is asked for and answers the status."""
+    """Prints the requested lines and returns the exit status."""
     if "--help" in words or "-h" in words:
         print(__doc__.strip())
         return 0
@@ -59,7 +59,7 @@ def main(words):
     chosen = [word for word in words if not word.startswith("--")]
     unknown = [word for word in chosen if word not in names]
     if unknown:
-        print(f"no crate of crates.txt: {' '.join(unknown)}", file=sys.stderr)
+        print(f"proof_layers.py: crates.txt has no crate {' '.join(unknown)}", file=sys.stderr)
         return 2
     if not chosen:
         chosen = [name for name in names if (name in BY_CONTRACTS) != others]

@@ -1,16 +1,18 @@
 #!/usr/bin/env python3
-"""Types the texts of a listing back.
+"""Assembles the texts of a listing and lists the bytes again.
 
     tools/round_trip.py BITS code.bin [PROGRAM] [--base BASE]
 
-PROGRAM (else the repository's built listing_program) writes `list BITS BASE intel` of the file, and its texts go to `asm BITS`, many lines at a time, at the
-address where the listing has them. The bytes that come back are listed at the same address. Each text has to come back as it was; no instruction may be
-longer than in the file, and a single byte has to be itself.
+PROGRAM (by default the repository's built listing_program) lists the file by `list BITS BASE intel`. The texts go to `asm BITS`, many lines at a time, at the
+address that the listing gives. The resulting bytes are listed at the same address. Each text must come back unchanged. No instruction may be longer than in
+the file, and a single byte must be itself.
 
-An instruction that comes back shorter moves what follows it. Texts name targets by their addresses, so the next line is typed where the listing has it: a
-run of lines ends with each line that became shorter. Single bytes are typed in runs of their own, since other bytes behind them may be read with them.
-Prints how many lines there are, how many changed bytes and in how many runs, the seconds of `asm`, and each line that did not come back; with one, the
-status is 1. Nothing rests on this script.
+An instruction that becomes shorter moves the code after it. Texts name targets by their addresses, so the next line is assembled at its address in the
+listing: a run of lines ends with each line that became shorter. Single bytes are assembled in runs of their own, because other bytes after them might be
+decoded with them.
+
+The script prints the number of lines, how many changed their bytes, the number of runs, the seconds of `asm`, and each line that did not come back. The exit
+status is 1 if there is such a line. No proof depends on this script.
 """
 import argparse
 import collections
@@ -21,7 +23,7 @@ import subprocess
 import sys
 import time
 
-LINES = 500  # lines typed at a time
+LINES = 500  # lines assembled at a time
 
 
 def ran(program, words, data):
@@ -35,7 +37,7 @@ def lines_of(program, bits, base, code):
 
 
 class Typing:
-    """What came of the lines that were typed so far."""
+    """The results of the lines that have been assembled so far."""
 
     def __init__(self, program, bits):
         self.program, self.bits = program, bits
@@ -43,7 +45,7 @@ class Typing:
         self.changed, self.shorter, self.single, self.bad, self.kinds = 0, 0, 0, [], collections.Counter()
 
     def asm(self, at, texts):
-        """The bytes of some lines, and how many lines they are: those in front of a bad one."""
+        """The bytes of some lines, and the number of lines before the first bad one."""
         before = time.monotonic()
         made = ran(self.program, ["asm", self.bits, f"{at:x}"], "".join(f"{text}\n" for text in texts).encode("ascii"))
         self.seconds += time.monotonic() - before
@@ -53,11 +55,11 @@ class Typing:
         if made.returncode == 11 and bad:
             return self.asm(at, texts[: int(bad[1]) - 1]) if bad[1] != b"1" else (b"", 0)
         if made.returncode != 0:
-            sys.exit(f"asm {self.bits} {at:x}: status {made.returncode}")
+            sys.exit(f"round_trip.py: `asm {self.bits} {at:x}` ended with status {made.returncode}: {made.stderr.decode().strip()}")
         return made.stdout, len(texts)
 
     def run(self, at, lines):
-        """Types a run of lines at its address; answers how many lines of it are settled."""
+        """Assembles a run of lines at its address, and returns how many of its lines are settled."""
         made, count = self.asm(at, [text for _, text in lines])
         if count == 0:
             self.bad.append(f"{at:x}: {lines[0][0].hex()} {lines[0][1]}: no instruction")
@@ -69,7 +71,7 @@ class Typing:
         return count
 
     def single_bytes(self, at, lines):
-        """Types a run of single bytes; answers how many they are."""
+        """Assembles a run of single bytes, and returns their number."""
         made, count = self.asm(at, [text for _, text in lines])
         if made != b"".join(byte for byte, _ in lines) or count != len(lines):
             self.bad.append(f"{at:x}: {len(lines)} single bytes came back as {made.hex()}")
@@ -103,7 +105,7 @@ def main():
         done += settled
     print(f"{len(lines)} lines, {typing.single} of them single bytes; {len(typing.bad)} did not come back")
     print(f"{typing.changed} changed bytes, {typing.shorter} of these are shorter; {typing.runs} runs")
-    print(f"asm took {typing.seconds:.2f} s for {typing.typed} lines: {typing.typed / max(typing.seconds, 1e-9):.0f} lines a second, with the start of each run")
+    print(f"asm took {typing.seconds:.2f} s for {typing.typed} lines: {typing.typed / max(typing.seconds, 1e-9):.0f} lines a second, including the start of each run")
     for name, count in typing.kinds.most_common(12):
         print(f"{count:9} {name}")
     print("\n".join(typing.bad[:20]))

@@ -1,8 +1,7 @@
 #!/usr/bin/env python3
-"""Lists, for each line of crates.txt, the libraries that no file of the crate names.
+"""Lists the libraries in lines of crates.txt that no file of the crate names.
 
-Usage, at the top of a clone: tools/unused_dependencies.py. It prints a line `CRATE: LIBRARY ..` for each crate that lists a library in vain, and ends
-with status 1 where there is one.
+Usage: tools/unused_dependencies.py. It prints a line `CRATE: LIBRARY ..` for each crate with an unused library. The exit status is 1 if there is one.
 
 A file of src/ names a library by `LIBRARY::`, by `use LIBRARY;` or `use LIBRARY as`, or in a `ghost use Rattle.LIBRARY.`; a file of specs/ or proofs/ by
 `Rattle.LIBRARY.`.
@@ -25,7 +24,7 @@ def dependencies():
 
 
 def text_of(crate):
-    """The text of a crate's files, a line feed between two."""
+    """The text of a crate's files, separated by line feeds."""
     folder = TOP / "crates" / crate
     files = sorted(folder.glob("src/**/*.rt"))
     for part in ("specs", "proofs"):

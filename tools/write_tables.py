@@ -1,5 +1,5 @@
 #!/usr/bin/env python3
-"""Writes the generated tables of the repository from the entries in crates/row_entries/data, or checks that they are what these entries give."""
+"""Writes the generated tables of the repository from the entries in crates/row_entries/data, or compares them with these entries."""
 import argparse
 import os
 import sys
@@ -12,7 +12,7 @@ from tables.rows import table_of  # noqa: E402
 CRATES = os.path.join(os.path.dirname(os.path.dirname(os.path.abspath(__file__))), 'crates')
 
 HELP = '''\
-The entries are read once (docs/entries.md says how a line is read) and expanded to the rows of the table; the stages behind make of these rows
+The entries are read once (docs/entries.md describes a line) and expanded to the rows of the table. From the rows these stages make
 
   rows      crates/rows_*/src/generated_table.rt, crates/opcode_rows/src/generated_{spots,cells,names}.rt
   columns   crates/operand_info/src/generated_columns.rt
@@ -23,9 +23,8 @@ The entries are read once (docs/entries.md says how a line is read) and expanded
   branches  crates/move_goals/src/branch_forms/generated_codes.rt
   effects   crates/instruction_info/src/generated_effects.rt, from the lines in crates/row_entries/data too (docs/instruction-info.md)
 
-Nothing rests on this program: the crates prove of what it writes what their contracts and laws say, and row_entries compares the entries with the
-rows. The exit status is 0 where all files are as the entries say, with --check 1 where a file differs (each is named), and 2 where a line is no
-entry.
+No proof depends on this program: the crates prove the contracts and laws of what it writes, and row_entries compares the entries with the rows.
+The exit status is 0 if all files agree with the entries, 1 if with --check a file differs (each is named), and 2 if a line is not an entry.
 '''
 
 
@@ -52,7 +51,7 @@ def main():
         if not check:
             with open(os.path.join(CRATES, path), 'w') as file:
                 file.write(files[path])
-    print(f'{len(table)} rows, {len(set(row.name for row in table))} names; of {len(files)} files {len(files) - len(stale)} were as they should be')
+    print(f'{len(table)} rows, {len(set(row.name for row in table))} names; {len(files) - len(stale)} of {len(files)} files were up to date')
     return 1 if check and stale else 0
 
 

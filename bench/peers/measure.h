@@ -1,8 +1,8 @@
-// What the peers share: the file, the clock of the processor time of this process, and the line that is printed.
+// Shared by the peers: the file, the clock of the processor time of this process, and the printed line.
 //
 // A peer's program has `sweep`, one pass over the bytes, and calls `measure` from its `main`:
 //     PROGRAM FILE [BITS [PASSES]]
-// Passes are repeated until two seconds of processor time have gone by, or PASSES times where that number is above 0.
+// Passes are repeated until two seconds of processor time have elapsed, or PASSES times if that number is above 0.
 #include <stdint.h>
 #include <stdio.h>
 #include <stdlib.h>
@@ -10,8 +10,8 @@
 
 struct counts {
     uint64_t items;  // instructions
-    uint64_t errors; // places where none stands; each takes one byte
-    uint64_t sum;    // something of each instruction, so that its reading is not left out
+    uint64_t errors; // places at which none begins; each takes one byte
+    uint64_t sum;    // a value of each instruction, so that no decoding is optimised away
 };
 
 typedef void sweep_function(const uint8_t *bytes, size_t size, int bits, struct counts *counts);
@@ -23,7 +23,7 @@ static double seconds_used(void)
     return (double)now.tv_sec + (double)now.tv_nsec * 1e-9;
 }
 
-// The bytes of a file, with 16 zeros behind them.
+// The bytes of a file, followed by 16 zeros.
 static uint8_t *read_file(const char *name, size_t *size)
 {
     FILE *file = fopen(name, "rb");

@@ -1,7 +1,7 @@
 /*
  * Lists a file of raw machine code: address, bytes and text of each instruction, as `listing_program list` does.
  *
- *   disassemble FILE [BITS [BASE [intel|att|masm]]]      BITS is 16, 32 or 64, BASE hexadecimal
+ *   disassemble FILE [BITS [BASE [intel|att|masm]]]      BITS is 16, 32 or 64 (64 by default), BASE is hexadecimal
  */
 #include "feddurzai.h"
 
@@ -35,7 +35,7 @@ static uint8_t *read_file(const char *name, size_t *len)
     return bytes;
 }
 
-/* the hexadecimal digits, and spaces up to two for each of 15 bytes */
+/* prints bytes as hexadecimal digits, padded to the width of 15 bytes */
 static void print_bytes(const uint8_t *bytes, size_t len)
 {
     static const char digits[] = "0123456789abcdef";
@@ -68,11 +68,12 @@ int main(int argc, char **argv)
     size_t len, at = 0;
     uint8_t *bytes;
     if (argc < 2 || (bits != 16 && bits != 32 && bits != 64)) {
-        fprintf(stderr, "usage: disassemble FILE [BITS [BASE [intel|att|masm]]]\n");
+        fprintf(stderr, "usage: disassemble FILE [BITS [BASE [intel|att|masm]]], with BITS 16, 32 or 64 and BASE hexadecimal\n");
         return 1;
     }
     if (feddurzai_interface() != FEDDURZAI_INTERFACE) {
-        fprintf(stderr, "disassemble: the library has another interface\n");
+        fprintf(stderr, "disassemble: the library has interface %u, feddurzai.h has %d: install both from one version\n",
+            (unsigned)feddurzai_interface(), FEDDURZAI_INTERFACE);
         return 1;
     }
     bytes = read_file(argv[1], &len);

@@ -1,10 +1,10 @@
 /*
- * A hook: the first bytes of a function of this program are replaced by a jump to another function, and a trampoline in
- * a page near it does what they did. That one counts the call, and goes on through the trampoline. A second function,
+ * A hook: a jump to another function overwrites the first bytes of a function of this program, and a trampoline in a page
+ * near it does what they did. The other function counts the call and continues through the trampoline. A second function,
  * whose loop goes back into its first bytes, is refused.
  *
- * Linux on x86-64. Run: it prints the results of the function before, with and after the hook, how often that was
- * called, and why there is none of the second function.
+ * Linux on x86-64. The program prints the taken instructions, the patch and the trampoline, the results of the function
+ * before and with the hook, the number of calls of the hook, and why the second function is refused.
  */
 #define _GNU_SOURCE
 #include "feddurzai.h"
@@ -16,7 +16,7 @@
 
 enum { PAGE = 4096 };
 
-/* the function that is hooked; its first instructions are a branch that leaves them and a load by an operand at RIP */
+/* the hooked function; its first instructions are a branch out of them and a load by an operand at RIP */
 static volatile int scale = 3;
 
 __attribute__((noipa, section("hooked"))) static int scaled_sum(int n)
@@ -31,7 +31,7 @@ __attribute__((noipa, section("hooked"))) static int scaled_sum(int n)
     return sum;
 }
 
-/* its loop begins at the second instruction, which is two bytes behind the first byte: a jump of 5 would be entered */
+/* its loop begins at the second instruction, at offset 2, and so would enter a jump of 5 bytes */
 extern const uint8_t counts_up[], counts_up_end[];
 __asm__(
     ".pushsection hooked, \"ax\"\n"
@@ -44,7 +44,7 @@ __asm__(
     "counts_up_end:\n"
     ".popsection\n");
 
-/* a section whose name is a name in C: the linker tells where it ends */
+/* the linker defines the end of a section whose name is a C identifier */
 extern const uint8_t __stop_hooked[];
 
 static int (*volatile call_original)(int);
@@ -61,7 +61,7 @@ static uint64_t address_of(const void *pointer)
     return (uint64_t)(uintptr_t)pointer;
 }
 
-/* a page to write to and run, within reach of an address, or NULL */
+/* a writable and executable page within reach of an address, or NULL */
 static uint8_t *near_page(uint64_t address)
 {
     uint64_t step;
@@ -82,7 +82,7 @@ static int fail(const char *what, int32_t said)
     return 1;
 }
 
-/* prints some code, one instruction a line, and what stands behind the instructions as bytes */
+/* prints code, one instruction a line, and the bytes after the instructions */
 static void print_code(uint64_t ip, const uint8_t *bytes, size_t code, size_t len)
 {
     size_t at = 0;
@@ -99,7 +99,7 @@ static void print_code(uint64_t ip, const uint8_t *bytes, size_t code, size_t le
         printf("%s%02x%s", at == code ? "  db " : " ", bytes[at], at + 1 == len ? "\n" : "");
 }
 
-/* a hook, and what is needed to remove it */
+/* a hook, and the bytes that remove it */
 struct hook {
     uint8_t *function;
     uint8_t before[FEDDURZAI_MAX_PATCH];
@@ -107,7 +107,7 @@ struct hook {
     feddurzai_detour_report report;
 };
 
-/* writes over the first bytes of a function. Nothing may run in them: here there is one thread. 0, or -1 */
+/* overwrites the first bytes of a function. No thread may run in them; this program has one thread. Returns 0, or -1 */
 static int write_code(uint8_t *function, const uint8_t *bytes, size_t len)
 {
     uint64_t first = address_of(function) & ~(uint64_t)(PAGE - 1);
@@ -117,7 +117,7 @@ static int write_code(uint8_t *function, const uint8_t *bytes, size_t len)
     return mprotect((void *)(uintptr_t)first, 2 * PAGE, PROT_READ | PROT_EXEC);
 }
 
-/* hooks a function of `len` bytes by a page near it, which gets what still does what the function did: 0, or a refusal */
+/* hooks a function of `len` bytes, with its trampoline in a page near it. Returns 0, or a refusal */
 static int32_t install(struct hook *hook, const void *function, size_t len, const void *replacement, uint8_t *page)
 {
     int32_t said = feddurzai_detour(64, address_of(function), (const uint8_t *)function, len, address_of(replacement), address_of(page),
@@ -137,17 +137,17 @@ int main(void)
     struct hook hook;
     int32_t said;
     uint8_t *page = near_page(address_of((void *)(uintptr_t)scaled_sum));
-    /* the function ends before the other one, or at the end of the section */
+    /* the function ends where the other one begins, or at the end of the section */
     uint64_t start = address_of((void *)(uintptr_t)scaled_sum);
     uint64_t end = start < address_of(counts_up) ? address_of(counts_up) : address_of(__stop_hooked);
     if (page == NULL)
-        return fail("no page is free near the function", 0);
+        return fail("no free page near the function", 0);
     for (k = 0; k < 5; k++)
         before[k] = function(cases[k]);
 
     said = install(&hook, (void *)(uintptr_t)scaled_sum, (size_t)(end - start), (void *)(uintptr_t)hooked_sum, page);
     if (said != 0)
-        return fail("the function is not hooked", said);
+        return fail("cannot hook the function: status", said);
     printf("taken:\n");
     print_code(start, hook.before, (size_t)hook.report.taken, (size_t)hook.report.taken);
     printf("patch:\n");
@@ -165,14 +165,14 @@ int main(void)
     scale = 3;
 
     if (write_code(hook.function, hook.before, (size_t)hook.report.taken) != 0)
-        return fail("the hook is not removed", 0);
+        return fail("cannot remove the hook: mprotect failed", 0);
     for (k = 0; k < 5; k++)
         same = same && function(cases[k]) == before[k];
 
     said = install(&hook, counts_up, (size_t)(counts_up_end - counts_up), (void *)(uintptr_t)hooked_sum, page);
     if (said != FEDDURZAI_ENTERED || hook.report.at != 6 || hook.report.target != 2)
-        return fail("the function whose loop enters its first bytes is not refused", said);
-    printf("counts_up is refused: from offset %" PRIu64 " control goes to offset %" PRIu64 ", which would be written over\n",
+        return fail("the function whose loop enters its first bytes must be refused: status", said);
+    printf("counts_up is refused: control goes from offset %" PRIu64 " to offset %" PRIu64 ", which would be overwritten\n",
         hook.report.at, hook.report.target);
     printf("the hook was called %d times; %s\n", hook_calls, same ? "the same results" : "OTHER RESULTS");
     return same && hook_calls == 6 ? 0 : 1;

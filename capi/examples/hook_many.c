@@ -1,11 +1,11 @@
 /*
- * Many hooks in one process: functions of the C library and of zlib, and some of this program whose first bytes are hard
- * to move. Each is called with many arguments before, with a hook that counts the calls and goes on through the
- * trampoline, and with the hook removed; nothing may differ. All hooks of a round are in place at once: first with the
- * trampolines near the libraries, where 5 bytes are written over, then far from them, where it is 14.
+ * Many hooks in one process: of functions of the C library and of zlib, and of functions of this program whose first bytes
+ * are hard to move. The program calls each with many arguments before, with and after a hook that counts the calls and
+ * continues through the trampoline; no result may differ. All hooks of a round are in place at once: first with the
+ * trampolines near the libraries, with jumps of 5 bytes, then far from them, with jumps of 14.
  *
- * Linux on x86-64; `-ldl` before glibc 2.34. Where there is no libz.so.1 its functions are left out. It prints what was
- * hooked, how, and why the others are not, and fails where anything differs.
+ * Linux on x86-64; link with `-ldl` before glibc 2.34. Without libz.so.1 its functions are left out. The program prints how
+ * many functions it hooked by which jump, and why it could not hook the others. It fails if any result differs.
  */
 #define _GNU_SOURCE
 #include "feddurzai.h"
@@ -28,11 +28,11 @@ typedef void (*function)(void);
 /* a function and its hook */
 struct hook {
     const char *name;
-    uint64_t (*run)(function);      /* calls it with many arguments, and answers a number made of all results */
+    uint64_t (*run)(function);      /* calls it with many arguments, and returns a hash of all results */
     function replacement;
     const char *library;            /* NULL for this program */
     function hooked;
-    size_t len;                     /* how many bytes the function has */
+    size_t len;                     /* the size of the function in bytes */
     function volatile original;     /* the trampoline */
     unsigned long calls;            /* of the replacement */
     int installed;
@@ -78,10 +78,10 @@ enum {
 };
 
 static struct hook hooks[HOOKS];
-static unsigned long made;          /* how many calls the functions below made */
+static unsigned long made;          /* the number of calls that the functions below made */
 static locale_t locale;
 
-/* ---- their replacements: each counts the call, and goes on through the trampoline */
+/* ---- their replacements: each counts the call and continues through the trampoline */
 
 #define ORIGINAL(name, type) (hooks[at_##name].calls++, (type)hooks[at_##name].original)
 
@@ -191,7 +191,7 @@ static uint64_t run_LONGTEXT(function f)
     return sum;
 }
 
-/* a sign alone is told by the functions that compare */
+/* of a comparison only the sign counts */
 static int sign(int n)
 {
     return (n > 0) - (n < 0);
@@ -286,7 +286,7 @@ static uint64_t run_COMBINE(function f)
     return sum;
 }
 
-/* what is no packed text is refused, and that is told too */
+/* invalid packed data is refused, and the refusal counts as a result */
 static uint64_t run_PACK(function f)
 {
     uint64_t sum = 0;
@@ -317,7 +317,7 @@ static uint64_t run_BOUND(function f)
 #define END(name) #name "_end:\n"
 __asm__(
     ".pushsection own, \"ax\"\n"
-    /* a short branch to an instruction that is taken with it, over one that would stop the program */
+    /* a short branch to an instruction that is taken too, over one that would stop the program */
     BEGIN(own_branch) "stc\n jc 1f\n hlt\n 1: lea 5(%rdi), %eax\n ret\n" END(own_branch)
     /* a loop to the very first byte */
     BEGIN(own_loop) "sub $3, %edi\n jg own_loop\n lea 10(%rdi), %eax\n ret\n" END(own_loop)
@@ -325,11 +325,11 @@ __asm__(
     BEGIN(own_rip) "mov own_value(%rip), %eax\n add %edi, %eax\n ret\n" END(own_rip)
     /* a call */
     BEGIN(own_call) "call own_callee\n add $1, %eax\n ret\n" END(own_call)
-    /* a branch that has but 8 bits, to behind what is taken */
+    /* a branch that has only 8 bits, to an instruction after the taken ones */
     BEGIN(own_jrcxz) "mov %edi, %ecx\n jrcxz 1f\n sub $1, %edi\n 1: lea 2(%rdi,%rdi), %eax\n ret\n" END(own_jrcxz)
-    /* a lone return, and padding that may be written over */
+    /* a single return, and padding that may be overwritten */
     BEGIN(own_ret) "ret\n .byte 0x0f, 0x1f, 0x40, 0x00\n .fill 10, 1, 0xcc\n" END(own_ret)
-    /* a loop into what would be written over: it is refused */
+    /* a loop into the bytes to be overwritten: it is refused */
     BEGIN(own_entered) "xor %eax, %eax\n 1: inc %eax\n cmp %edi, %eax\n jb 1b\n ret\n" END(own_entered)
     BEGIN(own_callee) "lea 7(%rdi,%rdi,2), %eax\n ret\n"
     ".popsection\n"
@@ -338,7 +338,7 @@ __asm__(
 #define DECLARE(name) extern const uint8_t name[], name##_end[];
 OWN(DECLARE)
 
-/* the result of a lone return is what stood in EAX before */
+/* the result of a single return is the old value of EAX */
 static uint64_t run_OWN_RET(function f)
 {
     int a;
@@ -384,7 +384,7 @@ static const uint8_t *code_of(function f)
     return (const uint8_t *)(uintptr_t)f;
 }
 
-/* a function of a library and its size, as the library's symbols tell it; none where the symbol is made when it is loaded */
+/* finds a function of a library and its size by the library's symbols; none if the loader resolves the symbol (IFUNC) */
 static void look_up(struct hook *hook)
 {
     void *library = dlopen(hook->library, RTLD_NOW), *symbol = library == NULL ? NULL : dlsym(library, hook->name);
@@ -396,7 +396,7 @@ static void look_up(struct hook *hook)
     hook->len = entry->st_size;
 }
 
-/* pages to write to and run: within reach of an address, or far from all */
+/* writable and executable pages: within reach of an address, or far from all */
 static uint8_t *pages(uint64_t address, size_t len, int far)
 {
     uint64_t step;
@@ -413,7 +413,7 @@ static uint8_t *pages(uint64_t address, size_t len, int far)
     return NULL;
 }
 
-/* writes over the first bytes of a function: here there is one thread, and it does not run there */
+/* overwrites the first bytes of a function; this program has one thread, which does not run there */
 static void write_code(function f, const uint8_t *from, size_t len)
 {
     uint8_t *first = (uint8_t *)(uintptr_t)(address_of(code_of(f)) & ~(uint64_t)(PAGE - 1));
@@ -424,7 +424,7 @@ static void write_code(function f, const uint8_t *from, size_t len)
     memcpy((void *)(uintptr_t)f, from, len);
 }
 
-/* makes a hook with its trampoline at a place, and puts it in; 0, or a refusal */
+/* makes a hook with its trampoline at a place, and installs it. Returns 0, or a refusal */
 static int32_t install(struct hook *hook, uint8_t *place, uint32_t start)
 {
     int32_t said = feddurzai_detour(64, address_of(code_of(hook->hooked)), code_of(hook->hooked), hook->len,
@@ -445,7 +445,7 @@ static void remove_hook(struct hook *hook)
     hook->installed = 0;
 }
 
-/* another name of a function that is hooked already is left out */
+/* another name of a function that is already hooked is left out */
 static int is_hooked(function f)
 {
     int k;
@@ -455,7 +455,7 @@ static int is_hooked(function f)
     return 0;
 }
 
-/* the functions of the libraries, with trampolines near them or far: how many were hooked, or -1 where anything differs */
+/* hooks the functions of the libraries, with trampolines near or far. Returns how many, or -1 if any result differs */
 static int round_of(int far, const char *title)
 {
     static uint64_t before[HOOKS];
@@ -488,10 +488,10 @@ static int round_of(int far, const char *title)
             unsigned long counted = hooks[k].calls, start = made;
             uint64_t result = hooks[k].run(hooks[k].hooked);
             calls += made - start;
-            /* others may call it too */
+            /* other functions may call it too */
             if (result != before[k] || hooks[k].calls - counted < made - start) {
                 differ++;
-                printf("%s: with the hook it DIFFERS\n", hooks[k].name);
+                printf("%s: the result DIFFERS with the hook\n", hooks[k].name);
             }
         }
     for (k = 0; k < at_own_branch; k++)
@@ -500,7 +500,7 @@ static int round_of(int far, const char *title)
     for (k = 0; k < at_own_branch; k++)
         if (hooks[k].hooked != NULL && hooks[k].run(hooks[k].hooked) != before[k]) {
             differ++;
-            printf("%s: with the hook removed it DIFFERS\n", hooks[k].name);
+            printf("%s: the result DIFFERS after the hook was removed\n", hooks[k].name);
         }
     printf("%s: %d functions hooked at once, by a near jump %d, by a relay %d, by 14 bytes %d; %lu calls\n", title, hooked,
         forms[FEDDURZAI_DETOUR_NEAR], forms[FEDDURZAI_DETOUR_RELAY], forms[FEDDURZAI_DETOUR_ABSOLUTE], calls);
@@ -510,7 +510,7 @@ static int round_of(int far, const char *title)
     return differ == 0 ? hooked : -1;
 }
 
-/* one function of this program: whether it is as it should be */
+/* hooks one function of this program, and compares its results */
 static int try_own(int k, uint8_t *place, const char *where, uint32_t start, int32_t want, unsigned long want_calls)
 {
     struct hook *hook = &hooks[k];
@@ -521,7 +521,7 @@ static int try_own(int k, uint8_t *place, const char *where, uint32_t start, int
         remove_hook(hook);
     }
     if (said != want || hooked != before || hook->run(hook->hooked) != before || (said == 0 && hook->calls != want_calls)) {
-        printf("%s, trampoline %s: %d, %lu calls of the hook: it DIFFERS\n", hook->name, where, said, hook->calls);
+        printf("%s, trampoline %s: status %d, %lu calls of the hook: the result DIFFERS\n", hook->name, where, said, hook->calls);
         return 0;
     }
     return 1;
@@ -543,7 +543,7 @@ static int try_owns(void)
     }
     if (!good)
         return 0;
-    /* a branch to the start that comes to the hook is a call more each time around */
+    /* a branch to the start that reaches the hook adds a call in each round of the loop */
     for (a = -1; a < 256; a++)
         for (left = a, loops++; (left -= 3) > 0;)
             loops++;
@@ -551,8 +551,8 @@ static int try_owns(void)
     good = try_own(at_own_loop, far_place, "far", FEDDURZAI_START_HOOKED, 0, loops) && good;
     good = try_own(at_own_entered, near_place, "near", FEDDURZAI_START_MOVED, FEDDURZAI_ENTERED, 0) && good;
     good = good && hooks[at_own_entered].report.at == 6 && hooks[at_own_entered].report.target == 2;
-    printf("own: a short branch inside, a loop to the start, an operand at RIP, a call, jrcxz and a lone return hooked, near and far;\n"
-           "    far the operand at RIP is refused; a function whose loop enters its first bytes is refused\n");
+    printf("own: a short branch inside, a loop to the start, an operand at RIP, a call, jrcxz and a single return hooked, near and far;\n"
+           "    far, the operand at RIP is refused; a function whose loop enters its first bytes is refused\n");
     return good;
 }
 

@@ -1,13 +1,13 @@
 #!/usr/bin/env python3
-"""Looks into an ELF file: lists a function or a section with the symbols behind targets, and draws the basic blocks of a function.
+"""Inspects an ELF file: lists a function or a section with the symbols of targets, and draws the basic blocks of a function.
 
-    inspector.py FILE                              the functions of the file: address, size, name
-    inspector.py FILE NAME                         lists a function, or a section as .text
-    inspector.py FILE --flow FUNCTION OUT.svg      draws the basic blocks of a function (OUT.dot: for Graphviz, which OUT.svg needs)
+    inspector.py FILE                              lists the functions of the file: address, size, name
+    inspector.py FILE NAME                         lists a function, or a section such as .text
+    inspector.py FILE --flow FUNCTION OUT.svg      draws the basic blocks of a function (OUT.svg needs Graphviz; OUT.dot is its input)
     inspector.py FILE NAME --html OUT.html         writes a page for a function: its listing, whose targets are links, and its flow graph
 
-NAME is a symbol, a section, or a hexadecimal address in a function, as 0x401000. A stripped file has the names of its dynamic symbols and
-of its PLT; its other functions are those of .eh_frame_hdr. It wants pyelftools (Debian: python3-pyelftools).
+NAME is a symbol, a section, or a hexadecimal address in a function, such as 0x401000. A stripped file has the names of its dynamic symbols and of
+its PLT; its other functions are found by .eh_frame_hdr. The program needs pyelftools (Debian: python3-pyelftools).
 """
 
 import argparse
@@ -34,13 +34,13 @@ try:
     from elftools.elf.relocation import RelocationSection
     from elftools.elf.sections import SymbolTableSection
 except ImportError:
-    sys.exit("inspector.py: there is no pyelftools for this Python (Debian: python3-pyelftools, for /usr/bin/python3)")
+    sys.exit("inspector.py: this Python has no pyelftools: install it (Debian: python3-pyelftools, for /usr/bin/python3)")
 
 # ---- the file
 
 
 class Section:
-    """A section that is loaded: its name, its addresses, its bytes, and whether it has code."""
+    """A loaded section: its name, its addresses, its bytes, and whether it has code."""
 
     def __init__(self, section):
         self.name = section.name
@@ -54,16 +54,16 @@ class Section:
 
 
 class Program:
-    """What an ELF file says of its code: the mode, sections, and what stands at which address."""
+    """The code of an ELF file: the mode, the sections, and the symbols by address."""
 
     def __init__(self, file):
         elf = ELFFile(file)
         if elf["e_machine"] not in ("EM_X86_64", "EM_386"):
-            raise ELFError(f"it is for {elf['e_machine']}, and not for x86")
+            raise ELFError(f"the ELF file is for {elf['e_machine']}, not for x86")
         self.bits = 64 if elf["e_machine"] == "EM_X86_64" else 32
         allocated = [it for it in elf.iter_sections() if it["sh_flags"] & SH_FLAGS.SHF_ALLOC and it["sh_addr"]]
         self.sections = [Section(it) for it in allocated]
-        # name and size of what begins at an address, and those addresses in order
+        # the name and size of the symbol at an address; starts has these addresses in order
         self.symbols = {}
         self.functions = {}
         for table in elf.iter_sections():
@@ -74,11 +74,11 @@ class Program:
         self.starts = sorted(self.symbols)
 
     def section_at(self, address):
-        """The section that has an address, None where none has it."""
+        """The section that contains an address, None if there is none."""
         return next((it for it in self.sections if address in it), None)
 
     def take_symbols(self, table):
-        """The functions and objects of a symbol table."""
+        """Adds the functions and objects of a symbol table."""
         for symbol in table.iter_symbols():
             kind, address = symbol["st_info"]["type"], symbol["st_value"]
             if symbol["st_shndx"] == "SHN_UNDEF" or not symbol.name or not address:
@@ -89,7 +89,7 @@ class Program:
                 self.name(address, symbol.name, symbol["st_size"], False)
 
     def name(self, address, name, size, is_function):
-        """Takes a name for an address, of several the first that has a size."""
+        """Adds a name for an address; of several names, the first with a size is kept."""
         if is_function and self.functions.get(address, (None, 0))[1] == 0:
             self.functions[address] = (name, size)
             self.symbols[address] = (name, size)
@@ -97,7 +97,7 @@ class Program:
             self.symbols.setdefault(address, (name, size))
 
     def relocated(self, elf):
-        """The names that the loader puts an address of, by the address where it puts it."""
+        """The names of symbols that the loader resolves, by the address at which it stores theirs."""
         names = {}
         for section in elf.iter_sections():
             if not isinstance(section, RelocationSection):
@@ -110,7 +110,7 @@ class Program:
         return names
 
     def take_plt(self, names):
-        """The entries of the PLT, each by the name whose address it jumps to; and the slots with those addresses."""
+        """Names the entries of the PLT by the symbols to which they jump, and the slots that hold their addresses."""
         for slot, name in names.items():
             self.symbols.setdefault(slot, (f"{name}@got", self.bits // 8))
         for section in self.sections:
@@ -125,7 +125,7 @@ class Program:
                         break
 
     def take_frames(self):
-        """Functions without a name, which a stripped file has by .eh_frame_hdr alone: a table of first addresses in order."""
+        """Adds functions without a symbol, from the table of first addresses in .eh_frame_hdr."""
         header = next((it for it in self.sections if it.name == ".eh_frame_hdr"), None)
         # version 1, and a count and table of four bytes each, relative to the header
         if header is None or header.code[:1] != b"\x01" or header.code[2:4] != b"\x03\x3b":
@@ -135,12 +135,12 @@ class Program:
             address = header.start + start
             section, frames = self.section_at(address), self.section_at(header.start + frame)
             if address not in self.symbols and section and section.runs and frames:
-                # of the frame's entry: length, its rules, first address, and how many bytes
+                # the frame's entry has its length, the offset of its rules, the first address, and the size
                 (size,) = struct.unpack_from("<I", frames.code, header.start + frame - frames.start + 12)
                 self.name(address, f"fn_{address:x}", size, True)
 
     def symbol_of(self, address):
-        """`name` or `name+0x10` for an address, None where no symbol reaches it."""
+        """`name` or `name+0x10` for an address, None if no symbol covers it."""
         n = bisect.bisect_right(self.starts, address)
         if n == 0:
             return None
@@ -151,7 +151,7 @@ class Program:
         return f"{name}+{address - start:#x}" if address < start + size else None
 
     def code_of(self, name):
-        """The code that a name stands for: its title, address and bytes."""
+        """The code of a name: its title, address and bytes."""
         section = next((it for it in self.sections if it.name == name and it.runs), None)
         if section:
             return name, section.start, section.code
@@ -159,18 +159,18 @@ class Program:
         if start is None and re.fullmatch(r"0x[0-9a-f]+", name):
             start = self.function_around(int(name, 16))
         if start is None:
-            raise LookupError(f"no function and no section with code has the name {name}")
+            raise LookupError(f"no function and no section with code has the name {name}: run without NAME to list the functions")
         title, size = self.functions[start]
         section = self.section_at(start)
         if section is None or not section.runs:
-            raise LookupError(f"{name} is not in a section with code")
+            raise LookupError(f"{name} is not in a section with code, so it cannot be listed")
         if size == 0:
             later = [it for it in self.functions if it > start]
             size = min([*later, section.end]) - start
         return title, start, section.code[start - section.start :][:size]
 
     def function_around(self, address):
-        """The first address of the function that has an address, None where none has it."""
+        """The first address of the function that contains an address, None if there is none."""
         starts = sorted(self.functions)
         n = bisect.bisect_right(starts, address)
         if n == 0:
@@ -180,7 +180,7 @@ class Program:
 
 
 def target_of(item):
-    """The address that an instruction names: of a near target or of an operand at RIP; else None."""
+    """The address that an instruction names: its near target, or that of its operand at RIP; else None."""
     if not isinstance(item, Instr):
         return None
     about = item.info()
@@ -194,7 +194,7 @@ SIZES = {"byte", "word", "dword", "qword", "fword", "tword", "oword", "yword", "
 
 
 def parts_of(text):
-    """The parts of an instruction's text, each with what it is: mnemonic, register, number, size or rest."""
+    """Yields the parts of an instruction's text, each with its kind: mnemonic, register, number, size or rest."""
     mnemonic = True
     for found in PARTS.finditer(text):
         kind, part = found.lastgroup, found.group()
@@ -221,13 +221,13 @@ COLOURS = {"address": 90, "bytes": 90, "mnemonic": 36, "register": 33, "number":
 
 
 class Terminal:
-    """Text for a terminal, with colours or without."""
+    """Output to a terminal, with or without colours."""
 
     def __init__(self, colours):
         self.colours = colours
 
     def paint(self, kind, text):
-        """A part in its colour."""
+        """A part of a text in the colour of its kind."""
         return f"\x1b[{COLOURS[kind]}m{text}\x1b[0m" if self.colours and kind in COLOURS else text
 
     def text(self, item, style):
@@ -237,7 +237,7 @@ class Terminal:
         return "".join(self.paint(kind, part) for kind, part in parts_of(item.text(style)))
 
     def write(self, program, start, code, style):
-        """Lists code, with a line in front of each symbol."""
+        """Lists code, with a line before each symbol."""
         width = program.bits // 4
         for item in feddurzai.iterate(program.bits, start, code):
             if item.address in program.symbols:
@@ -256,7 +256,7 @@ GOES_ON = (Flow.NEXT, Flow.CALL, Flow.INDIRECT_CALL, Flow.INTERRUPT)
 
 
 class Block:
-    """A basic block: its items, and the addresses to which control may go from its end, each with how."""
+    """A basic block: its items, and its successors, each with the kind of the edge."""
 
     def __init__(self, items, starts):
         self.items = items
@@ -275,7 +275,7 @@ class Block:
 
 
 def blocks_of(bits, start, code):
-    """The basic blocks that control reaches from the first byte of some code, in ascending order."""
+    """The basic blocks that control reaches from the first byte of the code, in ascending order."""
     by_leader = {}
     for at, leader, _ in feddurzai.flow(bits, start, code):
         item = next(feddurzai.iterate(bits, start + at, code[at : at + 15]))
@@ -284,7 +284,7 @@ def blocks_of(bits, start, code):
 
 
 def dot_of(program, title, blocks, style):
-    """The blocks in Graphviz's language: boxes that link to the listing."""
+    """The blocks in the DOT language: boxes that link to the listing."""
     plain = Terminal(False)
     lines = [
         f"digraph {quoted(title)} {{",
@@ -306,14 +306,14 @@ def dot_of(program, title, blocks, style):
 
 
 def quoted(text):
-    """A name in Graphviz's language."""
+    """A name in the DOT language."""
     return '"' + text.replace("\\", "\\\\").replace('"', '\\"') + '"'
 
 
 def drawn(dot):
-    """The picture of a graph, as SVG."""
+    """A graph as SVG."""
     if not shutil.which("dot"):
-        sys.exit("inspector.py: there is no dot: install Graphviz, or write a file OUT.dot")
+        sys.exit("inspector.py: the command dot is not installed: install Graphviz, or name an output file OUT.dot")
     return subprocess.run(["dot", "-Tsvg"], input=dot.encode(), stdout=subprocess.PIPE, check=True).stdout.decode()
 
 
@@ -346,19 +346,19 @@ a {{ color: #0a58ca; text-decoration: none; }} a:hover {{ text-decoration: under
 {rows}
 </table>
 <h2>Flow graph</h2>
-<p>Green: taken; red: not taken; blue: jump; grey: control goes on. A box leads to its first instruction in the listing.</p>
+<p>Green: taken; red: not taken; blue: jump; grey: control continues. A box links to its first instruction in the listing. Indirect jumps have no edges.</p>
 <div class="graph">{graph}</div>
 </body></html>
 """
 
 
 def span(kind, text):
-    """A part of a text."""
+    """A part of a text as HTML."""
     return html.escape(text) if kind in ("rest",) else f'<span class="{kind}">{html.escape(text)}</span>'
 
 
 def row(program, item, style, starts, leaders, reached):
-    """A line of the page's listing."""
+    """A line of the page's listing as HTML."""
     if isinstance(item, Instr):
         text = "".join(span(kind, part) for kind, part in parts_of(item.text(style)))
     else:
@@ -377,7 +377,7 @@ def row(program, item, style, starts, leaders, reached):
 
 
 def page_of(program, title, start, code, style):
-    """The page of a function."""
+    """The page of a function as HTML."""
     items = list(feddurzai.iterate(program.bits, start, code))
     blocks = blocks_of(program.bits, start, code)
     reached = {item.address for block in blocks for item in block.items}
@@ -385,7 +385,7 @@ def page_of(program, title, start, code, style):
     starts = {item.address for item in items}
     rows = "\n".join(row(program, item, style, starts, leaders, reached) for item in items)
     graph = drawn(dot_of(program, title, blocks, style))
-    about = f"{len(code)} bytes at {start:#x}, {len(items)} instructions, {len(blocks)} basic blocks reached from the first. Pale lines are not reached from it."
+    about = f"{len(code)} bytes at {start:#x}, {len(items)} instructions, {len(blocks)} basic blocks reached from the first byte. Pale lines are not reached from there without an indirect jump."
     return PAGE.format(title=html.escape(title), about=about, rows=rows, graph=graph[graph.index("<svg") :])
 
 
@@ -393,7 +393,7 @@ def page_of(program, title, start, code, style):
 
 
 def arguments():
-    """What the command is asked."""
+    """The arguments of the command."""
     parser = argparse.ArgumentParser(description=__doc__, formatter_class=argparse.RawDescriptionHelpFormatter)
     parser.add_argument("file")
     parser.add_argument("name", nargs="?")
@@ -403,22 +403,26 @@ def arguments():
     parser.add_argument("--colour", choices=["auto", "always", "never"], default="auto")
     asked = parser.parse_args()
     if asked.html and not asked.name:
-        parser.error("--html wants the NAME of a function")
+        parser.error("--html needs the NAME of a function before it")
+    if asked.flow and not asked.flow[1].endswith((".svg", ".dot")):
+        parser.error(f"--flow writes .svg or .dot files, not {asked.flow[1]}")
     return asked
 
 
 def run(asked, program):
-    """Does what the command is asked."""
+    """Runs the command."""
     style = Style[asked.style.upper()]
     if asked.flow:
         name, out = asked.flow
         title, start, code = program.code_of(name)
         dot = dot_of(program, title, blocks_of(program.bits, start, code), style)
+        graph = dot if out.endswith(".dot") else drawn(dot)
         with open(out, "w", encoding="utf-8") as file:
-            file.write(dot if out.endswith(".dot") else drawn(dot))
+            file.write(graph)
     if asked.html:
+        page = page_of(program, *program.code_of(asked.name), style)
         with open(asked.html, "w", encoding="utf-8") as file:
-            file.write(page_of(program, *program.code_of(asked.name), style))
+            file.write(page)
     elif asked.name:
         _, start, code = program.code_of(asked.name)
         colours = asked.colour == "always" or asked.colour == "auto" and sys.stdout.isatty() and "NO_COLOR" not in os.environ

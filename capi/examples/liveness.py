@@ -1,19 +1,21 @@
 #!/usr/bin/env python3
-"""Says which general registers and flags are dead at each address of a function: what is in them there is never read again.
+"""Reports the general registers and flags that are dead at each address of a function: their values there are never read again.
 
-    liveness.py FILE [BITS [BASE]]      FILE has the bytes of the function; BITS is 16, 32 or 64, BASE hexadecimal
-    liveness.py FILE FUNCTION           a function of an ELF file, by its name or a hexadecimal address, as 0x401000 (wants pyelftools)
+    liveness.py FILE [BITS [BASE]]      FILE has the bytes of the function; BITS is 16, 32 or 64, BASE is hexadecimal
+    liveness.py FILE FUNCTION           a function of an ELF file, by name or by an address such as 0x401000 (needs pyelftools)
 
-A hook or an instrumentation may use what is dead at an address without saving it. The answer errs to one side only, towards live:
+A hook or an instrumentation may use what is dead at an address without saving it. If in doubt, the program reports a register or flag as
+live:
 
- - All is live at a call, a return, an interrupt, a system call, and where control leaves the bytes or goes to a target that is not known:
-   nothing is taken for granted of a calling convention. (So a flag is dead only where an instruction behind it overwrites it for sure.)
- - A register is overwritten by a write of the whole, which in 64-bit code one of its low 32 bits is, too; not by one of a part, and not by
-   one that a condition, a mask or a counter may prevent. A flag is overwritten where it gets a value or is undefined, always.
- - What the operands of an instruction name is read, also where the result does not depend on it, as in `xor eax, eax`.
+ - Everything is live at a call, a return, an interrupt, a system call, and where control leaves the bytes or goes to an unknown target. No
+   calling convention is assumed. (So a flag is dead only if a later instruction certainly overwrites it.)
+ - A register is overwritten by a write of the whole register. In 64-bit code this includes a write of its low 32 bits. A write of a part
+   does not count, nor a write that a condition, a mask or a counter may suppress. A flag is overwritten if it always receives a value or
+   becomes undefined.
+ - An instruction reads what its operands name, even if the result does not depend on it, as in `xor eax, eax`.
 
-Control is followed from the first byte. Code that only an indirect jump reaches is not looked at, and all is live at that jump. What a
-debugger or a signal handler looks at is not asked.
+Control is followed from the first byte. Code that only an indirect jump reaches is not analysed, and everything is live at that jump. Reads by
+a debugger or a signal handler are not considered.
 """
 
 import os
@@ -32,13 +34,13 @@ LEAVES = (Flow.CALL, Flow.INDIRECT_CALL, Flow.RETURN, Flow.INDIRECT_JUMP, Flow.I
 
 
 def places_of(bits):
-    """All that is followed: general registers by their widest names, and flags."""
+    """All registers and flags that are tracked: general registers as their widest registers, and flags."""
     return {Register(RegClass.R64, n) for n in range(16 if bits == 64 else 8)} | set(FLAGS)
 
 
 @dataclass(frozen=True)
 class Step:
-    """An instruction: what it reads, what it overwrites for sure, and the addresses behind it; an address that is None leaves the code."""
+    """An instruction: what it reads, what it certainly overwrites, and its successors; a successor of None leaves the code."""
 
     item: Instr
     reads: frozenset
@@ -47,7 +49,7 @@ class Step:
 
 
 def step_of(item, reached, everything):
-    """The step of an instruction."""
+    """The step for an item."""
     if not isinstance(item, Instr):
         return Step(item, everything, frozenset(), ())
     about, told = item.info(), item.effects()
@@ -66,7 +68,7 @@ def step_of(item, reached, everything):
 
 
 def liveness(bits, start, code):
-    """The steps of a function in ascending order, each with what is dead before it."""
+    """The steps of a function in ascending order, each with the registers and flags that are dead before it."""
     everything = frozenset(places_of(bits))
     items = {}
     for reached in feddurzai.flow(bits, start, code):
@@ -87,7 +89,7 @@ def liveness(bits, start, code):
 
 
 def name_of(register, bits):
-    """The name of a general register in a mode."""
+    """The name of a general register, as wide as the mode."""
     return str(register if bits == 64 else Register(RegClass.R32, register.number))
 
 

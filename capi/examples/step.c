@@ -1,11 +1,11 @@
 /*
- * A debugger whose breakpoints stay: a function of another process gets one at each of its instructions, and each
- * instruction that is come to runs in a slot of its own, from which a jump leads back. So no breakpoint is ever taken
- * away, and no other thread could run past one. It is done in two ways: the process goes on at the slot by itself, or it
- * is stepped there by the trap flag, and put behind the instruction when that is done.
+ * A debugger whose breakpoints stay: it sets one at each instruction of a function of another process, and runs each
+ * instruction in a slot of its own, from which a jump leads back. So no breakpoint is ever removed, and no other thread
+ * could run past one. The program does it in two ways: the process continues in the slot by itself, or the debugger steps
+ * it there by the trap flag and moves it past the instruction when that is complete.
  *
- * Linux on x86-64, where ptrace is allowed. Run: it prints how often each instruction was come to, and whether the
- * function gave what it gives without a debugger.
+ * Linux on x86-64, if ptrace is allowed. The program prints how often each instruction was reached, and the function's
+ * results without a debugger, with slots, and stepped.
  */
 #define _GNU_SOURCE
 #include "feddurzai.h"
@@ -43,7 +43,7 @@ __asm__(
     "more: .long 3\n"
     ".text\n");
 
-/* an instruction with its slot, and how often control came to it */
+/* an instruction with its slot, and how often control reached it */
 struct stop {
     uint64_t ip;
     uint64_t place;
@@ -60,7 +60,7 @@ static uint64_t address_of(const void *pointer)
     return (uint64_t)(uintptr_t)pointer;
 }
 
-/* a page within reach of an address that a child shares, or NULL */
+/* a page within reach of an address, shared with child processes, or NULL */
 static uint8_t *near_page(uint64_t address)
 {
     uint64_t step;
@@ -75,7 +75,7 @@ static uint8_t *near_page(uint64_t address)
     return NULL;
 }
 
-/* makes a slot for each instruction of some code, in a region that is the page: 0, or a refusal */
+/* makes a slot for each instruction of the code, in a region that is the page. Returns 0, or a refusal */
 static int32_t make_slots(const uint8_t *code, size_t len, uint8_t *page)
 {
     feddurzai_region region = {address_of(page), PAGE, 0};
@@ -103,7 +103,7 @@ static int32_t make_slots(const uint8_t *code, size_t len, uint8_t *page)
     return 0;
 }
 
-/* puts an int3 over the first byte of each instruction */
+/* overwrites the first byte of each instruction with int3 */
 static int set_breakpoints(pid_t child)
 {
     size_t k;
@@ -126,7 +126,7 @@ static struct stop *stop_before(uint64_t rip)
     return NULL;
 }
 
-/* steps a process until the instruction of a slot is done, and puts it where it would be without the slot */
+/* steps a process until the instruction of a slot is complete, and moves it to where it would be without the slot */
 static int step_through(pid_t child, const struct stop *stop, struct user_regs_struct *regs)
 {
     int status;
@@ -140,7 +140,7 @@ static int step_through(pid_t child, const struct stop *stop, struct user_regs_s
     return ptrace(PTRACE_SETREGS, child, NULL, regs) == 0 ? 0 : -1;
 }
 
-/* runs the function in another process, with a breakpoint at each of its instructions: its result, or -1 */
+/* runs the function in another process, with a breakpoint at each of its instructions. Returns its result, or -1 */
 static int debugged(int n, int by_steps)
 {
     int status;
@@ -183,12 +183,12 @@ int main(void)
     int32_t said;
     size_t k;
     if (page == NULL) {
-        printf("no page is free near the function\n");
+        printf("no free page near the function\n");
         return 1;
     }
     said = make_slots(summed, (size_t)(summed_end - summed), page);
     if (said < 0) {
-        printf("an instruction has no slot: %" PRId32 "\n", said);
+        printf("cannot make a slot for an instruction: status %" PRId32 "\n", said);
         return 1;
     }
     went = debugged(5, 0);

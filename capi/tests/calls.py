@@ -258,7 +258,7 @@ def placed_in_a_region():
 
 def stepped_elsewhere():
     call = code("e8fb0f0000")
-    # a call and a jump back by hand; the same at an offset of more bytes
+    # a call and a jump back, worked out manually; the same at an offset of more bytes
     for given in ((0x1000, call), (0xFFF, b"\x90" + call, 1)):
         made = f.step(64, given[0], given[1], 0x1800, *given[2:])
         check(made, f.Step(code("e8fb070000e9fbf7ffff"), 5, 5))
@@ -269,9 +269,9 @@ def stepped_elsewhere():
     refused(f.Reason.INVALID, f.step, 64, 0, b"\x06", 0, kind=f.InvalidCode)
     refused(f.Reason.TOO_SHORT, f.step, 64, 0, b"\xe8", 0, kind=f.TooShort)
     wraps = refused(f.Reason.WRAPS, f.step, 16, 0x1000, b"\x90", 0xFFFE)
-    check(str(wraps), "the old or the new code passes the address space of the mode: it ends at 0x10002")
+    check(str(wraps), "the old or the new code extends past the address space of the mode: it ends at 0x10002")
     far = refused(f.Reason.TOO_FAR, f.step, 64, 0x1000, code("8b0500000000"), 0x7F0000000000)
-    check((str(far), far.report.address), ("an instruction cannot reach its target from its new place: target 0x1006", 0x1006))
+    check((str(far), far.report.address), ("an instruction cannot reach its target from its new address: target 0x1006", 0x1006))
     check(pickle.loads(pickle.dumps(far)).report, far.report)
     refused(f.Reason.BAD_MODE, f.step_len, 17, 0, call, 0)
     refused(f.Reason.INVALID, f.step_len, 64, 0, b"\x06", 0, kind=f.InvalidCode)
@@ -341,7 +341,7 @@ def hooks_are_made():
     # the trampoline is far too: 14 bytes, of which this function has but 7
     few = refused(f.Reason.SMALL, f.detour, 64, 0x1000, small, 0x7FFF00000000, 0x7FFE00000000)
     check((few.report.at, few.report.target), (7, 14))
-    check(str(few), "the function has too few bytes for the jump: it has 7, the jump 14")
+    check(str(few), "the function is shorter than the jump: the function has 7 bytes, the jump 14")
     long = 7 * code("31c0") + code("c3")
     far = f.detour(64, 0x1000, long, 0x7FFF00000000, 0x7FFE00000000)
     check((far.patch.hex(), far.form), ("ff250000000000000000ff7f0000", f.DetourForm.ABSOLUTE))
@@ -389,14 +389,14 @@ def refusals_say_why():
     refused(f.Reason.TOO_SHORT, f.decode, 64, 0, b"\x90", 1, kind=f.TooShort)
     far = refused(f.Reason.TOO_FAR, f.move, 64, 0x1000, code("90488b0510000000"), 0x7FFF00000000)
     check((far.report.at, far.report.address), (1, 0x1018))
-    check(str(far), "an instruction cannot reach its target from its new place: instruction 1, target 0x1018")
+    check(str(far), "an instruction cannot reach its target from its new address: instruction 1, target 0x1018")
     bad = refused(f.Reason.INVALID, f.move, 64, 0, code("9006"), 0x1000, kind=f.InvalidCode)
     check((bad.report.at, str(bad).endswith(": at offset 1"), repr(bad.report).startswith("MoveReport(bytes=0, count=0, at=1")), (1, True, True))
     wraps = refused(f.Reason.WRAPS, f.move, 32, 0xFFFFFFFF, code("9090"), 0x1000)
     check(str(wraps).endswith(": it ends at 0x100000001"), True)
     refused(f.Reason.TOO_LARGE, f.move, 64, 0, bytes(f.MAX_CODE + 1), 0)
     refused(f.Reason.TOO_LARGE, f.flow, 64, 0, bytes(f.MAX_FLOW + 1))
-    check(str(refused(f.Reason.TOO_MANY, f.move, 64, 0, 65537 * b"\x90", 0)).endswith(": 65537"), True)
+    check(str(refused(f.Reason.TOO_MANY, f.move, 64, 0, 65537 * b"\x90", 0)).endswith(": there are 65537"), True)
     copy = pickle.loads(pickle.dumps(far))
     check((type(copy), copy.number, copy.report, str(copy)), (f.Refusal, far.number, far.report, str(far)))
 
@@ -411,19 +411,19 @@ def encodings_say_their_cause():
         assert words in str(refusal), str(refusal)
         check(refusal.number, -(want << 8 | (operand or 0)))
 
-    cause(mov.replace(code=5000), f.Cause.ROW, None, "the code is no row of the table that exists in the mode")
-    cause(mov.replace(ops=[mov.ops[0], f.Immediate(5)]), f.Cause.KIND, 1, "operand 1: it is of a kind")
-    cause(mov.replace(ops=[mov.ops[0], f.register("xmm1")]), f.Cause.REGISTER, 1, "operand 1: it is a register that cannot stand there")
+    cause(mov.replace(code=5000), f.Cause.ROW, None, "no row of the table that exists in the mode has the code")
+    cause(mov.replace(ops=[mov.ops[0], f.Immediate(5)]), f.Cause.KIND, 1, "operand 1: the row takes no operand of this kind")
+    cause(mov.replace(ops=[mov.ops[0], f.register("xmm1")]), f.Cause.REGISTER, 1, "operand 1: this register cannot be encoded here")
     lea = f.decode(64, 0, code("488d03"))
     cause(lea.replace(ops=[rax, f.Memory(rbx, f.register("rsp"), 4)]), f.Cause.MEMORY, 1, "operand 1: base, index and scale")
     cause(lea.replace(ops=[rax, f.Memory(rbx, None, 1, 5, 16)]), f.Cause.DISPLACEMENT, 1, "operand 1: the address has no such displacement")
     add = f.decode(64, 0, code("83c005"))
-    cause(add.replace(ops=[add.ops[0], f.Immediate(0x1234)]), f.Cause.IMMEDIATE, 1, "operand 1: it is an immediate that its size does not hold")
+    cause(add.replace(ops=[add.ops[0], f.Immediate(0x1234)]), f.Cause.IMMEDIATE, 1, "operand 1: the immediate does not fit its size")
     je = f.decode(64, 0, code("7410"))
-    cause(je.replace(ops=[f.Near(1 << 40)]), f.Cause.TARGET, 0, "operand 0: its target is out of reach")
-    cause(lea.replace(ops=[rax, f.Memory(f.register("rip"), displacement=1 << 40)]), f.Cause.TARGET, 1, "operand 1: its target")
+    cause(je.replace(ops=[f.Near(1 << 40)]), f.Cause.TARGET, 0, "operand 0: the target is out of reach")
+    cause(lea.replace(ops=[rax, f.Memory(f.register("rip"), displacement=1 << 40)]), f.Cause.TARGET, 1, "operand 1: the target")
     cause(add.replace(lock=True), f.Cause.PREFIX, None, "LOCK or a repeat prefix is not allowed")
-    cause(add.replace(asize=32), f.Cause.ADDRESS_SIZE, None, "the address size is absent, needless")
+    cause(add.replace(asize=32), f.Cause.ADDRESS_SIZE, None, "the address size is missing, superfluous")
     refused(f.Reason.BAD_INSTR, f.text, 64, mov.replace(rep=5))
     refused(f.Reason.BAD_FORM, f.info, mov.replace(ops=[]))
     # a branch with padding, whose shortest form does not reach
@@ -484,10 +484,10 @@ def values_are_looked_at_first():
     ):
         raised(ValueError, call, *arguments)
     words = {
-        "instr is an Instr, not NoneType": [(f.text, (64, None)), (f.encode, (64, 0, None)), (f.info, (None,)), (f.effects, (64, None))],
-        "instr is an Instr, not int": [(f.text, (64, 5))],
-        "instr is an Instr, not bytes": [(f.info, (b"",))],
-        "code is bytes, a bytearray or a memoryview, not NoneType": [
+        "instr must be an Instr, not NoneType": [(f.text, (64, None)), (f.encode, (64, 0, None)), (f.info, (None,)), (f.effects, (64, None))],
+        "instr must be an Instr, not int": [(f.text, (64, 5))],
+        "instr must be an Instr, not bytes": [(f.info, (b"",))],
+        "code must be bytes, a bytearray or a memoryview, not NoneType": [
             (f.decode, (64, 0, None)),
             (f.iterate, (64, 0, None)),
             (f.move, (64, 0, None, 0)),
@@ -495,18 +495,18 @@ def values_are_looked_at_first():
             (f.step, (64, 0, None, 0)),
             (f.detour, (64, 0, None, 0, 0)),
         ],
-        "code is bytes, a bytearray or a memoryview, not int": [(f.decode, (64, 0, 5))],
-        "code is bytes, a bytearray or a memoryview, not str": [(f.iterate, (64, 0, "90"))],
-        "ip is a whole number, not str": [(f.decode, (64, "0", b"\x90"))],
-        "bits is a whole number, not float": [(f.decode, (64.0, 0, b"\x90"))],
-        "code is a whole number, not NoneType": [(f.name, (None,)), (f.notation, (None,)), (f.Instr, (None,))],
-        "name is a str, not NoneType": [(f.code_of, (None,)), (f.codes_of, (None,)), (f.register, (None,))],
-        "name is a str, not bytes": [(f.code_of, (b"mov",))],
-        "which is a whole number, not NoneType": [(f.code_of, ("mov", None))],
-        "text is a str, not bytes": [(f.assemble, (64, 0, b"nop")), (f.read_intel, (64, 0, b"nop"))],
-        "operand 0 is a Register, Memory, Immediate, Near or Far, not int": [(f.Instr, (0, 5))],
-        "base is a Register or None, not str": [(f.Memory, ("rbx",))],
-        "an instruction has no opcode to change": [(lambda: nop.replace(opcode=5), ())],
+        "code must be bytes, a bytearray or a memoryview, not int": [(f.decode, (64, 0, 5))],
+        "code must be bytes, a bytearray or a memoryview, not str": [(f.iterate, (64, 0, "90"))],
+        "ip must be an int, not str": [(f.decode, (64, "0", b"\x90"))],
+        "bits must be an int, not float": [(f.decode, (64.0, 0, b"\x90"))],
+        "code must be an int, not NoneType": [(f.name, (None,)), (f.notation, (None,)), (f.Instr, (None,))],
+        "name must be a str, not NoneType": [(f.code_of, (None,)), (f.codes_of, (None,)), (f.register, (None,))],
+        "name must be a str, not bytes": [(f.code_of, (b"mov",))],
+        "which must be an int, not NoneType": [(f.code_of, ("mov", None))],
+        "text must be a str, not bytes": [(f.assemble, (64, 0, b"nop")), (f.read_intel, (64, 0, b"nop"))],
+        "operand 0 must be a Register, Memory, Immediate, Near or Far, not int": [(f.Instr, (0, 5))],
+        "base must be a Register or None, not str": [(f.Memory, ("rbx",))],
+        "an instruction has no opcode: replace takes code, ops, lock, rep, segment and asize": [(lambda: nop.replace(opcode=5), ())],
     }
     for want, calls in words.items():
         for call, arguments in calls:
@@ -521,6 +521,14 @@ def registers_have_names():
     check(len(f.registers()), 4 * 16 + 4 + 6 + 16 + 8 + 8 + 8 + 32 + 2)
     refused(f.Reason.NO_REGISTER, f.Register(f.RegClass.SEG, 6).name)
     refused(f.Reason.NO_REGISTER, f.segment_text, 0)
+
+
+def enumerations_print_names():
+    check((str(f.Flow.NEXT), f"{f.Flow.NEXT}", f"{f.Flow.JUMP:d}", f.Flow.JUMP == 1), ("Flow.NEXT", "Flow.NEXT", "1", True))
+    check((str(f.Code.RET), str(f.Reason.BAD_MODE), f"{f.Style.ATT:>10}"), ("Code.RET", "Reason.BAD_MODE", " Style.ATT"))
+    check([str(f.Flags(bits)) for bits in (0, 0x41, 0x3000, 0x1000, 0x3)], ["Flags(0)", "Flags.CF|ZF", "Flags.IOPL", "Flags(0x1000)", "Flags.CF|0x2"])
+    check((str(f.Touch.READ | f.Touch.MAY_WRITE), f"{f.Flags.CF | f.Flags.ZF:#x}"), ("Touch.READ|MAY_WRITE", "0x41"))
+    check(str(refused(f.Reason.BAD_MODE, f.decode, 17, 0, b"").reason), "Reason.BAD_MODE")
 
 
 def documents_are_true():
@@ -578,6 +586,7 @@ for test in (
     encodings_say_their_cause,
     values_are_looked_at_first,
     registers_have_names,
+    enumerations_print_names,
     documents_are_true,
     threads_at_once,
 ):

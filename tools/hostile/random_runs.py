@@ -1,12 +1,12 @@
 #!/usr/bin/env python3
-"""Runs every command of the program on random words and input, and checks that each run ends by itself with a status and the line that goes with it.
+"""Runs every command of the program on random words and input, and checks that each run ends by itself with a status and its line.
 
     tools/hostile/random_runs.py PROGRAM [RUNS [SEED]]
 
-PROGRAM is the built listing program; RUNS is 20000 for each command unless said otherwise. Words are right, almost right or random; input is random
-bytes, or code of PROGRAM itself with flipped bits; now and then the input is closed, or nobody reads the output. A run passes where it ends within
-ten seconds by its own exit (no signal), with a status of the table below, and with exactly the line of that status on standard error. Whole commands
-have to leave standard output empty at every status but `done` and `write fault`. Nothing rests on this script.
+PROGRAM is the built listing_program. RUNS is the number of runs of each command, 20000 by default. Words are right, almost right or random. Input is
+random bytes, or code of PROGRAM itself with flipped bits. In some runs the input is closed, or nobody reads the output. A run passes if it exits within
+ten seconds and not by a signal, with a status of the table below, and with exactly the line of that status on standard error. Commands that read their
+whole input first must leave standard output empty at every status except success and `write fault`. No proof depends on this script.
 """
 import os
 import random

@@ -1,13 +1,13 @@
 #!/usr/bin/env python3
-"""Runs the commands that take memory where some of it is refused, and checks that each run gives the right answer or says that memory lacks.
+"""Runs the commands that allocate memory while some requests fail, and checks that each run is right or reports that it is out of memory.
 
     tools/hostile/refused_memory.py PROGRAM [STEP]
 
-PROGRAM is the built listing program. First, `move` and `map` of two far jumps, whose block ends in two slots of eight bytes: one request for memory is
-refused in each run, the first, the second, and so on to the last (by a library in front of the C library's, which `cc` makes). Then two thousand branches
-and calls that grow, moved out of reach, under limits on the address space: the limit falls by STEP bytes (4096 unless said otherwise) from what the command
-needs to what the program needs to start, so that another request is refused each time. A run passes where it ends with status 0 and the whole output, or
-with status 5, its line, and nothing written. Runs in which the system could not start the program at all are counted apart. Nothing rests on this script.
+PROGRAM is the built listing_program. The first part runs `move` and `map` of two far jumps, whose block ends with two slots of eight bytes. In each run one
+request for memory fails: the first, the second, and so on to the last (by a library that `cc` builds and that is loaded before the C library). The second part
+moves two thousand growing branches and calls out of reach, under limits on the address space. The limit falls by STEP bytes (4096 by default) from what the
+command needs to what the program needs to start, so that another request fails each time. A run passes if it ends with status 0 and the whole output, or with
+status 5, its line, and no output. Runs in which the system could not start the program are counted separately. No proof depends on this script.
 """
 import os
 import resource
@@ -15,11 +15,11 @@ import subprocess
 import sys
 import tempfile
 
-# two jumps that go through slots: those of the tests of `move` and `map`
+# two jumps through slots, as in the tests of `move` and `map`
 SLOTS = bytes.fromhex("e905000000e900000000")
 SLOT_COMMANDS = [["move", "64", "1000", "7fff00000000"], ["map", "64", "1000", "7fff00000000"]]
 
-# refuses the request whose number REFUSED says, counted from 1, and says so by a byte on the descriptor REFUSED_FD
+# fails the request with the number REFUSED, counted from 1, and reports it by a byte on the descriptor REFUSED_FD
 REFUSING = r"""
 #include <stddef.h>
 #include <stdlib.h>
@@ -56,7 +56,7 @@ def run(program, words, limit=None):
 
 
 def least_start(program):
-    """The least limit under which the program says its version."""
+    """The least limit under which the program prints its version."""
     low, high = 1 << 12, 1 << 30
     while low + 4096 < high:
         middle = (low + high) // 2
@@ -65,7 +65,7 @@ def least_start(program):
 
 
 def run_refused(program, words, library, number):
-    """One run in which the request of this number is refused: whether there was one, and what the run gave."""
+    """One run in which the request with this number fails: whether there was one, and the result of the run."""
     said, saying = os.pipe()
     env = dict(os.environ, LD_PRELOAD=library, REFUSED=str(number), REFUSED_FD=str(saying))
     done = subprocess.run([program, *words], input=SLOTS, capture_output=True, env=env, pass_fds=[saying])
@@ -75,7 +75,7 @@ def run_refused(program, words, library, number):
 
 
 def refuse_each(program, words, library):
-    """How many runs failed of those in which each request in turn is refused."""
+    """The number of failed runs among those in which each request in turn fails."""
     plain = subprocess.run([program, *words], input=SLOTS, capture_output=True)
     wanted = (plain.returncode, plain.stdout, plain.stderr)
     counts = {"right": 0, "out of memory": 0}
@@ -94,13 +94,13 @@ def refuse_each(program, words, library):
         number += 1
     if got != wanted or number == 1:
         failed += 1
-        print("FAILED", " ".join(words), "asks for no memory, or answers otherwise with all of it: status", got[0], got[2])
-    print(" ".join(words), "with slots, one request refused:", ", ".join("%d %s" % (n, what) for what, n in counts.items()))
+        print("FAILED", " ".join(words), "requests no memory, or differs when no request fails: status", got[0], got[2])
+    print(" ".join(words), "with slots, one request fails:", ", ".join("%d %s" % (n, what) for what, n in counts.items()))
     return failed
 
 
 def refuse_requests(program):
-    """The runs with one refused request, over a library that is made for them."""
+    """The runs with one failing request, over a library that is built for them."""
     with tempfile.TemporaryDirectory() as folder:
         source, library = os.path.join(folder, "refusing.c"), os.path.join(folder, "refusing.so")
         with open(source, "w") as file:

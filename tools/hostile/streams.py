@@ -1,10 +1,11 @@
 #!/usr/bin/env python3
-"""Long and slow inputs for list, info and recode.
+"""Tests list, info and recode with long and slow inputs.
 
 usage: tools/hostile/streams.py PROGRAM
 
-Sends inputs around the limit of 16,777,216 bytes and counts what is written; sends code piece by piece through a pipe and looks that the lines of all
-instructions of which 15 bytes were sent stand at the other end before the next piece; and compares the peak of resident memory of a short and a long input.
+The script sends inputs of about the limit of 16,777,216 bytes and counts the output. It sends code piece by piece through a pipe, and checks that the lines of
+all instructions from whose start 15 bytes were sent arrive before the next piece. It prints the peak of resident memory for a short and a long input. The exit
+status is 1 if a check fails.
 """
 
 import os
@@ -31,7 +32,7 @@ def counted(program, words, data):
 
 
 def peak(program, words, data):
-    """The peak of resident memory in KiB, read once all input was sent and its end was not yet told."""
+    """The peak of resident memory in KiB, read after all input was sent and before it is closed."""
     run = subprocess.Popen([program, *words], stdin=subprocess.PIPE, stdout=subprocess.DEVNULL)
     run.stdin.write(data)
     run.stdin.flush()
@@ -44,7 +45,7 @@ def peak(program, words, data):
 
 
 def piece_by_piece(program, words, pieces):
-    """Sends each piece and answers what can be read before the next one is sent."""
+    """Sends each piece and returns what can be read before the next one is sent."""
     run = subprocess.Popen([program, *words], stdin=subprocess.PIPE, stdout=subprocess.PIPE, bufsize=0)
     got = []
     for piece in pieces:

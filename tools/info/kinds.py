@@ -1,4 +1,4 @@
-"""The kinds of differences with Zydis that docs/instruction-info.md explains, each with a test of a row, an aspect, our word and theirs."""
+"""The kinds of differences with Zydis that docs/instruction-info.md explains, each with a test of a row, an aspect, our value and theirs."""
 import re
 
 STRINGS = re.compile(r'^(ins|outs|movs|cmps|stos|lods|scas)[bwdq]$')
@@ -41,7 +41,7 @@ def is_selector(row, aspect, ours, theirs):
 
 
 def is_page(row, aspect, ours, theirs):
-    """The flags of the manual's page, where Zydis has others."""
+    """The flags are those of the manual's page, and Zydis has others."""
     names = {
         'flags written': {'sbb', 'rol', 'ror', 'rcl', 'rcr', 'shl', 'shr', 'sar', 'popf', 'sysret', 'sysenter', 'vtestps', 'vtestpd', 'vptest', 'bextr'},
         'flags undefined': {'sbb', 'rol', 'ror', 'rcl', 'rcr', 'shl', 'shr', 'sar', 'wait', 'fnop', 'mov', 'bextr'},

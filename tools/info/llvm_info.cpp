@@ -1,6 +1,6 @@
-// What LLVM says that instructions read and write: the registers of operands, and those that its descriptions imply. A line of standard input has a mode
-// and the bytes of an instruction in hexadecimal, as `64 f3a4`. A line of the output has it again, and behind it the name of LLVM's instruction and each
-// register with r or w, as `MOVSB r:RSI w:RSI`.
+// Prints the registers that instructions read and write by LLVM: those of operands, and those that its descriptions imply. A line of standard input has a
+// mode and the bytes of an instruction in hexadecimal, such as `64 f3a4`. A line of the output repeats it, followed by the name of LLVM's instruction and
+// each register with r or w: `MOVSB r:RSI w:RSI`.
 #include <llvm/MC/MCAsmInfo.h>
 #include <llvm/MC/MCContext.h>
 #include <llvm/MC/MCDisassembler/MCDisassembler.h>

@@ -1,4 +1,4 @@
-"""The kinds of differences with LLVM that docs/instruction-info.md explains, each with a test of a row, an aspect, our word and theirs."""
+"""The kinds of differences with LLVM that docs/instruction-info.md explains, each with a test of a row, an aspect, our value and theirs."""
 import re
 
 from .kinds import FAR, HINTS, PARTIAL, STATE, STRINGS

@@ -74,7 +74,7 @@ def forms(row):
 
 def samples_with(row):
     """The instructions of a row, each as a mode, its bytes and how they were made: in each mode and form; and with memory or an address size of its own
-    also on the stack, with a segment prefix, with the other address size, and behind each repeat prefix."""
+    also on the stack, with a segment prefix, with the other address size, and with each repeat prefix."""
     def made(form, asize, base='data', before=()):
         return bits, spell(row, bits, form, asize, base, before), (form, asize, base, before)
     for bits, flag in MODE_FLAGS.items():

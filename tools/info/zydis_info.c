@@ -1,5 +1,5 @@
-// What Zydis says that instructions touch. A line of standard input has a mode and the bytes of an instruction in hexadecimal, as `64 f3a4`. A line of
-// the output has it again, and behind it the mnemonic, the instruction set, and the operands and flags, split by semicolons.
+// Prints what instructions touch by Zydis. A line of standard input has a mode and the bytes of an instruction in hexadecimal, such as `64 f3a4`. A line
+// of the output repeats it, followed by the mnemonic, the instruction set, and the operands and flags, separated by semicolons.
 #include <Zydis/Zydis.h>
 #include <stdio.h>
 #include <stdlib.h>

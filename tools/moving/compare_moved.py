@@ -1,12 +1,11 @@
 #!/usr/bin/env python3
-"""Compares moved code with the code that it was, by an independent disassembler (objdump).
+"""Compares moved code with the original code, by an independent disassembler (objdump).
 
     tools/moving/compare_moved.py PROGRAM BITS CODE OLD NEW
 
-CODE is a file of raw code that decodes throughout. It is moved by PROGRAM from the address OLD to NEW (hexadecimal); old and new code are
-read by objdump, and instruction by instruction, along the map that PROGRAM writes, each target has to be the image of the old target or the
-same address, and everything else of the instruction has to be as it was. Branches are counted by what became of them. Nothing rests on this
-script.
+CODE is a file of raw code that decodes from end to end. PROGRAM moves it from the address OLD to NEW (hexadecimal). objdump disassembles the old and the
+new code. For each instruction, by the map that PROGRAM prints, the target must be the new address of the old target or the same address, and the rest of
+the instruction must be unchanged. Branches are counted by their new forms. No proof depends on this script.
 """
 import collections
 import re
@@ -39,7 +38,7 @@ def near(bits, text):
 
 
 def told(text):
-    """A text without the prefixes that have no meaning there, which are not kept: objdump names them in the padding between functions."""
+    """A text without prefixes that have no meaning there and are not kept: objdump shows them in the padding between functions."""
     text = re.sub(r"^(?:(?:data16|cs|ds|es|ss|rex(?:\.\w+)?)\s+)+", "", text)
     text = re.sub(r"(PTR )(?:cs|ds|es|ss):", r"\1", text)
     text = " ".join(text.split())

@@ -1,13 +1,12 @@
 #!/usr/bin/env python3
-"""A model of moving, written apart from the library, and random code to compare the two by.
+"""Compares moving with a model that is written independently of the library, on random code.
 
     tools/moving/model.py PROGRAM [RUNS [SEED]]
 
-Each run makes one to three blocks of made-up code in a random mode: jumps, calls and loops of all kinds, with prefixes that count and prefixes
-that do not, operands at RIP and EIP, and plain instructions; with targets inside the own block, in other blocks, in the middle of
-instructions and outside, at random old and new addresses, some of them at the ends of the address space. PROGRAM moves it (`move`, `map`
-or `blocks`), the model moves it too, and status, bytes, map and the line on standard error have to be the same. Nothing rests on this
-script.
+Each run makes one to three blocks of random code in a random mode: jumps, calls and loops of all kinds, with effective and ineffective prefixes, operands
+at RIP and EIP, and other instructions. Targets are in the same block, in other blocks, in the middle of instructions and outside. Old and new addresses are
+random, some of them at the ends of the address space. PROGRAM moves the code (`move`, `map` or `blocks`), and so does the model. Status, bytes, map and the
+line on standard error must be the same. No proof depends on this script.
 """
 import random
 import subprocess

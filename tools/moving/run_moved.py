@@ -1,12 +1,12 @@
 #!/usr/bin/env python3
-"""Moves the machine code of some C functions, runs it, and compares what it returns with what the code returns where it was.
+"""Moves the machine code of some C functions, runs it, and compares its results with those of the original code.
 
     tools/moving/run_moved.py PROGRAM
 
-PROGRAM is the built listing program. Two files are compiled with gcc for x86-64 and linked to a fixed address: functions.c, with constants
-that are read relative to RIP, is moved to an address within 2 GiB; far_functions.c, without such constants, beyond the reach of a near
-branch, with a function that stays outside. A runner in C maps the old code (and its constants) at its address and the moved code at the
-new one, calls each function at both with many arguments, and compares. It needs gcc and binutils; nothing rests on it.
+PROGRAM is the built listing_program. gcc compiles two files for x86-64, linked at a fixed address. functions.c has constants that are read relative to
+RIP, and is moved to an address within 2 GiB. far_functions.c has none; it is moved beyond the reach of a near branch, and calls a function that stays
+outside. A runner in C maps the old code (and its constants) at its address and the moved code at the new one, calls each function at both with many
+arguments, and compares the results. The script needs gcc and binutils. No proof depends on it.
 """
 import os
 import subprocess
@@ -77,7 +77,7 @@ def build(folder, source, level):
 
 
 def section(folder, elf, name):
-    """The address and the bytes of a section, where there is one."""
+    """The address and the bytes of a section, if there is one."""
     for line in run("objdump", "-h", elf, capture_output=True, text=True).stdout.splitlines():
         words = line.split()
         if len(words) > 5 and words[1] == name:

@@ -1,13 +1,13 @@
 #!/usr/bin/env python3
-"""Single-steps the machine code of some C functions by slots, and compares what it returns and writes with what the code does where it stands.
+"""Single-steps the machine code of some C functions in slots, and compares its results and writes with those of the code at its own address.
 
     tools/stepping/run_slots.py PROGRAM
 
-PROGRAM is the built listing program. The two files of tools/moving are compiled with gcc for x86-64 and linked to a fixed address: functions.c gets
-slots within 2 GiB, far_functions.c beyond the reach of a near branch. A runner in C calls each function with many arguments, first the code where it
-stands; then every byte of that code becomes INT3, the slots are mapped, and each function is called again at its old address. Each INT3 is met by a
-handler, which goes on in the slot of the instruction that stood there; the slot runs it and jumps back to the next INT3. Where the slots are is found by
-a model of its own: the first place behind the slot before, and the length of the longest images. It needs gcc and binutils; nothing rests on it.
+PROGRAM is the built listing_program. gcc compiles the two files of tools/moving for x86-64, linked at a fixed address: functions.c gets slots within 2 GiB,
+far_functions.c beyond the reach of a near branch. A runner in C calls each function with many arguments, first in the original code. Then it replaces every
+byte of that code by INT3, maps the slots, and calls each function again at its old address. A handler catches each INT3 and continues in the slot of the
+instruction that was there; the slot runs it and jumps back to the next INT3. An independent model finds the slots: each begins at the first place after the
+slot before it, and has the length of its longest images. The script needs gcc and binutils. No proof depends on it.
 """
 import os
 import re
@@ -58,7 +58,7 @@ static void on_trap(int signal, siginfo_t *info, void *context)
     steps++;
 }
 
-/* the results of all calls, one behind another; each that differs from the one of the first time is told */
+/* the results of all calls, in order; each that differs from its first result is reported */
 static u64 call_all(int again, u64 *wrong)
 {
     u64 calls = 0;
@@ -99,7 +99,7 @@ def up(number, unit):
 
 
 def reserved(length, flow, target, back):
-    """How many bytes a slot of 64-bit code takes: the longest image, a jump back through 8 bytes, and the 8 bytes of each goal."""
+    """The size of a slot of 64-bit code in bytes: the longest image, a jump back through 8 bytes, and the 8 bytes of each goal."""
     goals = {back}
     if target is not None:
         goals.add(target)
@@ -108,7 +108,7 @@ def reserved(length, flow, target, back):
 
 
 def slots_of(program, text, old, region):
-    """The address of each instruction and that of its slot."""
+    """The address of each instruction, and the address of its slot."""
     lines = run(program, "info", "64", "%x" % old, input=text, capture_output=True).stdout.decode().splitlines()
     starts = [int(line.split()[0], 16) for line in lines]
     place, slots = region, []

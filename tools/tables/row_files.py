@@ -85,7 +85,7 @@ def spots_text(table):
     text += SPOT + f'\n/// How many rows the table has.\npub const ROWS: u16 = {len(table)};\n\n'
     first = sum(row.entry.version == 1 for row in table)
     if first < len(table):
-        text += '/// How many of them are rows of version 1. They have the codes below it, and the rows of version 2 stand behind them.\n'
+        text += '/// How many of them are rows of version 1. They have the codes below it, and the rows of version 2 follow them.\n'
         text += f'pub const VERSION1_ROWS: u16 = {first};\n\n'
         text += f'/// How many rows version 2 adds.\npub const ADDED_ROWS: u16 = {len(table) - first};\n\n'
     text += f'/// Where the rows lie, by code.\npub static SPOTS: [Spot; {len(table)}] = spots! {{\n'

@@ -1,4 +1,4 @@
-"""x86 instructions (16, 32 and 64-bit code) read, written, told and moved.
+"""Decodes, encodes, prints, analyses and relocates x86 machine code (16, 32 and 64-bit).
 
     >>> import feddurzai
     >>> code = bytes.fromhex("48895c2410 e8f60f0000 c3")
@@ -8,14 +8,14 @@
     0x401005 e8f60f0000 call 0x402000
     0x40100a c3 ret
 
-`decode` reads one instruction and `iterate` all of some bytes; an `Instr` has an address, bytes, operands, a text, what it does (`info`)
-and what it touches (`effects`). `Instr(code, operands..)` makes one, and `encode` writes it. `move` puts code at another address, `flow`
-follows control, `detour` makes both parts of a hook, and `StepSlots` steps instructions elsewhere. `Code` has the codes of common
-instructions.
+`decode` decodes one instruction, and `iterate` all instructions of some bytes. An `Instr` has an address, bytes, operands and a text;
+`info` reports its flow and operand access, and `effects` everything that it touches. `Instr(code, operands..)` constructs one, and `encode`
+returns its bytes. `move` relocates code, `flow` follows control, `detour` makes both parts of a hook, and `StepSlots` makes slots for displaced
+single stepping. `Code` has the codes of common instructions.
 
-`bits`, the mode, is 16, 32 or 64; addresses are 0 to 2**64 - 1. A number out of its range is a ValueError and a value of another type a
-TypeError, before anything is called. What the library refuses is a `Refusal`, whose `reason` says why. No function keeps any state: they
-may be called from several threads.
+`bits`, the mode, is 16, 32 or 64. Addresses are 0 to 2**64 - 1. A number out of range raises ValueError, and a value of another type
+TypeError, before the library is called. If the library refuses a call, it raises `Refusal`, whose `reason` says why. Enumerations print their
+names: `str(Flow.NEXT)` is `Flow.NEXT`. The functions keep no state, so several threads may call them.
 """
 
 from ._blocks import Block, MovedBlock, move_blocks
@@ -165,7 +165,7 @@ __all__ = [
     "version",
 ]
 
-# what is public stands in this module, whichever file has it
+# public names belong to this module, whichever file defines them
 for _name in __all__:
     if getattr(globals()[_name], "__module__", "").startswith(__name__):
         globals()[_name].__module__ = __name__

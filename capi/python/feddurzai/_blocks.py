@@ -1,4 +1,4 @@
-"""Several blocks of code moved at once."""
+"""Moving several blocks of code at once."""
 
 import struct
 from dataclasses import dataclass
@@ -18,7 +18,7 @@ _BlocksRoom = _native.room_of(_BLOCKS_REPORT.size)
 
 @dataclass(frozen=True)
 class Block:
-    """A block of code, where it was, and where it is moved to.
+    """A block of code: its old address, its bytes, and its new address.
 
     >>> Block(0x1000, bytes.fromhex("90"), 0x2000).new_ip
     8192
@@ -35,7 +35,7 @@ class Block:
 
 
 class MovedBlock(NamedTuple):
-    """A moved block: its address, its bytes, how many of them stand before its slots, and a `Moved` for each instruction.
+    """A moved block: its new address, its bytes, its size without its slots, and a `Moved` for each instruction.
 
     >>> move_blocks(64, [Block(0x1000, bytes.fromhex("90"), 0x2000)])[0].code
     b'\\x90'
@@ -48,11 +48,11 @@ class MovedBlock(NamedTuple):
 
 
 def move_blocks(bits: int, blocks: Iterable[Block]) -> List[MovedBlock]:
-    """Blocks of code moved at once, each to an address of its own: every near branch and every operand at RIP or EIP still reaches what
-    it reached, or follows it where that is an instruction of any of the blocks.
+    """Moves blocks of code at once, each to an address of its own. Near branches and operands at RIP or EIP keep their targets, and a target
+    that is the start of an instruction of any of the blocks is followed.
 
-    Refused, with a report whose `block` is the number of the block that fails: BAD_MODE, TOO_LARGE, WRAPS, INVALID, TOO_SHORT, TOO_MANY,
-    TOO_FAR, NO_MEMORY.
+    Raises Refusal with BAD_MODE, TOO_LARGE, WRAPS, TOO_MANY, TOO_FAR or NO_MEMORY, and InvalidCode or TooShort. The report's `block` is the
+    number of the block that fails.
 
     >>> hot, cold = Block(0x1000, bytes.fromhex("0f85fa000000 c3"), 0x2000), Block(0x1100, bytes.fromhex("e901ffffff"), 0x2020)
     >>> [moved.code.hex() for moved in move_blocks(64, [hot, cold])]
@@ -61,7 +61,7 @@ def move_blocks(bits: int, blocks: Iterable[Block]) -> List[MovedBlock]:
     bits, taken_in = _checks.number("bits", bits, _checks.U32), list(blocks)
     for block in taken_in:
         if not isinstance(block, Block):
-            raise TypeError(f"blocks are Blocks, not {type(block).__name__}")
+            raise TypeError(f"each of blocks must be a Block, not {type(block).__name__}")
     code = b"".join(bytes(block.code) for block in taken_in)
     rows, offset = bytearray(), 0
     for block in taken_in:

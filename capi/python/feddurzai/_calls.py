@@ -1,4 +1,4 @@
-"""The calls: code is read, told, made, moved and followed."""
+"""The functions: decode, print, analyse, encode, move and follow code."""
 
 import struct
 from ctypes import byref, c_char_p, c_size_t, c_uint8, c_uint32, c_void_p, cast
@@ -13,7 +13,7 @@ from ._refusal import DetourReport, MoveReport, refusal_of, taken
 from ._told import About, encode_of, info_of, name_of, text_of
 
 _InstrRoom = _native.room_of(SIZE)
-# how many instructions are read at once: few at first, since a caller may stop
+# how many instructions one call decodes: few at first, because a caller may stop
 _CHUNKS = (16, 256, 2048)
 _BytesRoom = _native.room_of(_native.MAX_LEN)
 _JumpRoom = _native.room_of(_native.MAX_JUMP)
@@ -27,7 +27,7 @@ _DetourRoom = _native.room_of(_DETOUR_REPORT.size)
 
 
 def version() -> Tuple[int, int, int]:
-    """The library's version.
+    """Returns the version of the library: major, minor, patch.
 
     >>> version() >= (0, 1, 0)
     True
@@ -40,22 +40,24 @@ _new = Instr.__new__
 
 
 def _read(bits: int, address: int, code: bytes, struct_: bytes) -> Instr:
-    """The instruction of a struct that the library filled."""
+    """The instruction of a struct that the library has filled."""
     instr = _new(Instr)
     instr._struct, instr.bits, instr.address, instr.bytes = struct_, bits, address, code
     return instr
 
 
 def _window(bits: int, ip: int, code: Buffer, at: int) -> Tuple[int, int, bytes]:
-    """The mode, the address of an offset of some bytes, and as many of the bytes there as an instruction may have."""
+    """The mode, the address at an offset of some bytes, and the bytes there, at most as many as an instruction has."""
     window = _checks.front_bytes("code", code, at, _native.MAX_LEN)
     return _checks.number("bits", bits, _checks.U32), _checks.number("ip", ip) + at & _checks.U64, window
 
 
 def decode(bits: int, ip: int, code: Buffer, at: int = 0) -> Instr:
-    """The instruction that stands `at` an offset of some bytes, whose first has the address `ip` (both modulo 2 to the power of bits).
+    """Decodes the instruction at offset `at` of `code`.
 
-    Raises InvalidCode where the bytes begin with none and TooShort where they end before it does, and refuses BAD_MODE.
+    `bits` is the mode, 16, 32 or 64. `ip` is the address of the first byte of `code`, taken modulo 2**bits. Intel SDM volume 2, chapter 2.
+
+    Raises InvalidCode if no instruction begins there, TooShort if the bytes end before it does, and Refusal with BAD_MODE.
 
     >>> decode(64, 0x1000, bytes.fromhex("90 48895c2410"), 1)
     <Instr 0x1001: 48895c2410 mov qword [rsp+0x10], rbx>
@@ -67,7 +69,9 @@ def decode(bits: int, ip: int, code: Buffer, at: int = 0) -> Instr:
 
 
 def line(bits: int, ip: int, code: Buffer, syntax: int = Style.INTEL, at: int = 0) -> Tuple[Instr, str]:
-    """What `decode` reads, and its text in a style: one call of the library. Refused as `decode` is, and BAD_SYNTAX.
+    """Decodes an instruction as `decode` does, and returns its text in a `Style` too, by a single call of the library.
+
+    Raises what `decode` raises, and Refusal with BAD_SYNTAX.
 
     >>> line(64, 0x1000, bytes.fromhex("7410"))
     (<Instr 0x1000: 7410 je 0x1012>, 'je 0x1012')
@@ -80,10 +84,10 @@ def line(bits: int, ip: int, code: Buffer, syntax: int = Style.INTEL, at: int = 
 
 
 def iterate(bits: int, ip: int, code: Buffer) -> Iterator[Item]:
-    """What stands in some bytes, whose first has the address `ip`: one item after another, each an `Instr`, a `BadByte` or a `Rest`.
+    """Iterates over the instructions of `code`, whose first byte has the address `ip`.
 
-    A byte with which no instruction begins is a `BadByte`. Where the bytes end before an instruction does, all that is left is one
-    `Rest`, the last item. Refused: BAD_MODE.
+    Each item is an `Instr`, a `BadByte` or a `Rest`. A byte with which no instruction begins is a `BadByte`, and the next item begins after
+    it. If the bytes end before an instruction does, the bytes that are left are one `Rest`, the last item. Raises Refusal with BAD_MODE.
 
     >>> for item in iterate(64, 0x1000, bytes.fromhex("4883ec08 06 c3 4883c4")):
     ...     print(hex(item.address), item)
@@ -92,7 +96,7 @@ def iterate(bits: int, ip: int, code: Buffer) -> Iterator[Item]:
     0x1005 ret
     0x1006 (the bytes end here)
     """
-    # looked at before the first item is asked for
+    # checked before the first item is requested
     bits, ip = _checks.number("bits", bits, _checks.U32), _checks.number("ip", ip)
     code = _checks.code_bytes("code", code)
     if bits not in (16, 32, 64):
@@ -102,7 +106,7 @@ def iterate(bits: int, ip: int, code: Buffer) -> Iterator[Item]:
 
 def _items(bits: int, ip: int, code: bytes) -> Iterator[Item]:
     mask, at, chunks = (1 << bits) - 1, 0, iter(_CHUNKS)
-    # the bytes stay where they are as long as `code` does
+    # the address stays valid as long as `code` is alive
     chunk, where = 0, cast(c_char_p(code), c_void_p).value or 0
     while at < len(code):
         chunk = next(chunks, chunk)
@@ -110,7 +114,7 @@ def _items(bits: int, ip: int, code: bytes) -> Iterator[Item]:
         taken(_native.decode_many(bits, ip + at & _checks.U64, where + at, len(code) - at, room, chunk, byref(count)))
         structs = room.raw
         ends = range(SIZE, count.value * SIZE + 1, SIZE)
-        # by the high byte of the code: no row has 255
+        # the high byte of the code tells items apart: no row has 255
         for end, length, high in zip(ends, structs[LEN_AT::SIZE], structs[HIGH_AT::SIZE]):
             address = ip + at & mask
             if high != 0xFF:
@@ -129,7 +133,7 @@ def _items(bits: int, ip: int, code: bytes) -> Iterator[Item]:
 
 
 def text(bits: int, instr: Instr, syntax: int = Style.INTEL) -> str:
-    """The text of an instruction in a style. Refused: BAD_MODE, BAD_SYNTAX, BAD_INSTR, BAD_FORM.
+    """Returns the text of an instruction in a `Style`. Raises Refusal with BAD_MODE, BAD_SYNTAX, BAD_INSTR or BAD_FORM.
 
     >>> text(64, decode(64, 0, bytes.fromhex("48895c2410")), Style.ATT)
     'movq %rbx, 0x10(%rsp)'
@@ -138,10 +142,10 @@ def text(bits: int, instr: Instr, syntax: int = Style.INTEL) -> str:
 
 
 def encode(bits: int, ip: int, instr: Instr) -> bytes:
-    """The shortest bytes that are read as an instruction at the address `ip`.
+    """Encodes an instruction: returns the shortest bytes that decode to it at the address `ip`.
 
-    Refused: BAD_MODE, BAD_INSTR, NO_ENCODING with its cause and operand. Some instructions that were read have none: of a branch with
-    needless prefixes the shortest form may no longer reach.
+    Raises Refusal with BAD_MODE, BAD_INSTR, or NO_ENCODING with its cause and operand. Some decoded instructions have no encoding: the
+    shortest form of a branch with needless prefixes may no longer reach.
 
     >>> encode(64, 0, Instr(code_of("mov", "REX.W + 89 /r"), Memory(register("rsp"), displacement=16), register("rbx"))).hex()
     '48895c2410'
@@ -150,7 +154,7 @@ def encode(bits: int, ip: int, instr: Instr) -> bytes:
 
 
 def encoded_len(bits: int, ip: int, instr: Instr) -> int:
-    """How many bytes `encode` gives; refused as that is.
+    """Returns the number of bytes that `encode` returns, and raises what it raises.
 
     >>> encoded_len(64, 0x1000, decode(64, 0x1000, bytes.fromhex("c4e17877")))
     3
@@ -160,9 +164,10 @@ def encoded_len(bits: int, ip: int, instr: Instr) -> int:
 
 
 def assemble(bits: int, ip: int, text: str) -> bytes:
-    """The bytes that an Intel text stands for at the address `ip`: a text as `Instr.text` writes it.
+    """Assembles an Intel text: returns the bytes that it stands for at the address `ip`.
 
-    Of all instructions with this text it is the one whose encoding is the shortest. Refused: BAD_MODE, NO_TEXT.
+    The text must be exactly as `Instr.text` prints it, with the same spaces and sizes: `push 5` and `jz` are refused. If several
+    instructions have the text, the bytes are those of the one with the shortest encoding. Raises Refusal with BAD_MODE or NO_TEXT.
 
     >>> assemble(64, 0x1000, "mov qword [rsp+0x10], rbx").hex()
     '48895c2410'
@@ -175,7 +180,7 @@ def assemble(bits: int, ip: int, text: str) -> bytes:
 
 
 def read_intel(bits: int, ip: int, text: str) -> Instr:
-    """The instruction that an Intel text stands for at the address `ip`: that with the bytes of `assemble`, and refused as it is.
+    """Returns the instruction whose bytes `assemble` returns, and raises what it raises.
 
     >>> read_intel(64, 0x1000, "je 0x1010")
     <Instr 0x1000: 740e je 0x1010>
@@ -188,9 +193,9 @@ def read_intel(bits: int, ip: int, text: str) -> Instr:
 
 
 def jump(bits: int, at: int, target: int, form: int = Jump.NEAR) -> bytes:
-    """A jump to a target or a call of it, in a form, for the address `at`.
+    """Returns the code of a jump to `target`, or of a call of it, for the address `at`. `form` is a `Jump`.
 
-    Refused: BAD_MODE, BAD_JUMP, NO_ENCODING where the target is out of reach or the mode has no such form.
+    Raises Refusal with BAD_MODE, BAD_JUMP, or NO_ENCODING if the target is out of reach or the mode does not have the form.
 
     >>> jump(64, 0x1000, 0x7fff00000000, Jump.FAR).hex()
     'ff250000000000000000ff7f0000'
@@ -202,7 +207,7 @@ def jump(bits: int, at: int, target: int, form: int = Jump.NEAR) -> bytes:
 
 
 def info(instr: Instr) -> About:
-    """What an instruction does. Refused: BAD_INSTR, BAD_FORM.
+    """Reports flow, operand access, memory size and named registers of an instruction. Raises Refusal with BAD_INSTR or BAD_FORM.
 
     >>> info(decode(64, 0x1000, bytes.fromhex("488b0510000000"))).ip_address
     4119
@@ -211,24 +216,24 @@ def info(instr: Instr) -> About:
 
 
 def effects(bits: int, instr: Instr) -> Effects:
-    """What an instruction touches in a mode, its operands and what no operand names: registers, memory, flags, and the CPUID features that it
-    needs. Refused: BAD_MODE, BAD_INSTR, BAD_FORM.
+    """Reports the registers, memory, flags and CPUID features of an instruction in a mode, named and implied. Raises Refusal with BAD_MODE,
+    BAD_INSTR or BAD_FORM.
 
-    >>> told = effects(64, decode(64, 0, bytes.fromhex("0f94c0")))
-    >>> [str(use.register) for use in told.registers], told.flags_read == Flags.ZF
-    (['al'], True)
+    >>> sete = effects(64, decode(64, 0, bytes.fromhex("0f94c0")))
+    >>> [str(use.register) for use in sete.registers], str(sete.flags_read)
+    (['al'], 'Flags.ZF')
     """
     return effects_of(_checks.number("bits", bits, _checks.U32), _struct_of(instr))
 
 
 def _struct_of(instr: Instr) -> bytes:
     if not isinstance(instr, Instr):
-        raise TypeError(f"instr is an Instr, not {type(instr).__name__}")
+        raise TypeError(f"instr must be an Instr, not {type(instr).__name__}")
     return instr._struct
 
 
 def name(code: int) -> str:
-    """The name of a row of the table, a mnemonic in lower case. Refused: BAD_CODE.
+    """Returns the name of a row of the table: its mnemonic in lower case. Raises Refusal with BAD_CODE.
 
     >>> name(0)
     'add'
@@ -237,7 +242,7 @@ def name(code: int) -> str:
 
 
 def notation(code: int) -> str:
-    """The notation of a row of the table. Refused: BAD_CODE.
+    """Returns the notation of a row of the table (Intel SDM volume 2, 3.1.1.1). Raises Refusal with BAD_CODE.
 
     >>> notation(decode(64, 0, bytes.fromhex("48895c2410")).code)
     'REX.W + 89 /r'
@@ -248,10 +253,11 @@ def notation(code: int) -> str:
 
 
 class RowOperand(NamedTuple):
-    """An operand of a row: the word of its kind, and what is done to the whole of it.
+    """An operand of a row: the code word of its kind, and its access.
 
-    The word is that of Intel SDM volume 2, A.2, as `Eb` or `Gv`: how the operand is addressed and of what type it is. Z is a register by the
-    opcode, gx and gv are the addresses of a gather, and a fixed register has its name. It is empty for an operand that the row does not have.
+    The words follow Intel SDM volume 2, A.2: an upper-case letter for the addressing method and lower-case letters for the operand type, as
+    in `Eb` or `Gv`. feddurzai_row_operand in feddurzai.h lists the words that A.2 does not have. The word is empty, and the access NONE, if
+    the row does not have the operand.
 
     >>> row_operand(code_of("shl", "D0 /4"), 1)
     RowOperand(kind='1', access=<Access.READ: 1>)
@@ -262,7 +268,7 @@ class RowOperand(NamedTuple):
 
 
 def row_operand(code: int, index: int) -> RowOperand:
-    """The operand of a row of the table, by its number from 0 to 3. Refused: BAD_CODE.
+    """Returns an operand of a row of the table, by its index from 0 to 3. Raises Refusal with BAD_CODE.
 
     >>> [row_operand(decode(64, 0, bytes.fromhex("4889c3")).code, index) for index in (0, 1)]
     [RowOperand(kind='Ev', access=<Access.WRITE: 2>), RowOperand(kind='Gv', access=<Access.READ: 1>)]
@@ -276,7 +282,7 @@ def row_operand(code: int, index: int) -> RowOperand:
 
 
 def code_of(name: str, which: Union[int, str] = 0) -> Optional[int]:
-    """The code of a row by its name and its notation, or its number among the rows of this name, from 0. None where there is none.
+    """Returns the code of a row, None if there is no such row. `which` is its notation, or its number among the rows of the name, from 0.
 
     >>> code_of("lea", "REX.W + 8D /r") == code_of("lea", 2), code_of("mow")
     (True, None)
@@ -289,7 +295,7 @@ def code_of(name: str, which: Union[int, str] = 0) -> Optional[int]:
 
 
 def codes_of(name: str) -> List[int]:
-    """The codes of all rows of a name.
+    """Returns the codes of all rows of a name, in ascending order.
 
     >>> [notation(code) for code in codes_of("leave")]
     ['o16 C9', 'o32 C9', 'o64 C9']
@@ -301,7 +307,7 @@ def codes_of(name: str) -> List[int]:
 
 
 def segment_text(segment: int, syntax: int = Style.INTEL) -> str:
-    """The name of the segment register that a prefix names. Refused: BAD_SYNTAX, NO_REGISTER.
+    """Returns the name of the segment register of a prefix. Raises Refusal with BAD_SYNTAX or NO_REGISTER.
 
     >>> segment_text(Segment.FS), segment_text(Segment.FS, Style.ATT)
     ('fs', '%fs')
@@ -313,7 +319,7 @@ def segment_text(segment: int, syntax: int = Style.INTEL) -> str:
 
 
 class Moved(NamedTuple):
-    """Where an instruction of `len` bytes was and where its image is, and how that is made.
+    """The old and the new address of a moved instruction, its old length in bytes, and its form.
 
     >>> move(64, 0x1000, bytes.fromhex("90"), 0x2000).places
     [Moved(old_ip=4096, new_ip=8192, len=1, form=<Form.ITSELF: 0>)]
@@ -326,7 +332,7 @@ class Moved(NamedTuple):
 
 
 class MovedCode(NamedTuple):
-    """Moved code: its bytes, a `Moved` for each instruction, and the numbers of the moving.
+    """Moved code: its bytes, a `Moved` for each instruction, and the report with its sizes.
 
     >>> move(64, 0x1000, bytes.fromhex("7410"), 0x7fff00000000).code.hex()
     '7506ff25000000001210000000000000'
@@ -338,7 +344,7 @@ class MovedCode(NamedTuple):
 
 
 def _moved_by(call: Callable[..., int], *arguments: Union[int, bytes]) -> MovedCode:
-    """What a moving writes: first asked how much that is."""
+    """Moves code by a function of the library: a first call reports the sizes of the buffers for the second."""
     room = _ReportRoom()
     said = call(*arguments, None, 0, None, 0, room)
     report = MoveReport(*_REPORT.unpack(room.raw))
@@ -354,14 +360,14 @@ def _moved_by(call: Callable[..., int], *arguments: Union[int, bytes]) -> MovedC
 
 
 def move(bits: int, old_ip: int, code: Buffer, new_ip: int) -> MovedCode:
-    """Code moved from one address to another: every near branch and every operand at RIP or EIP still reaches what it reached, or follows
-    it where that is moved too, in the least layout.
+    """Moves code from address `old_ip` to address `new_ip`. Near branches and operands at RIP or EIP keep their targets, and a target that
+    is the start of a moved instruction is followed to its new address. Branches grow as far as the least closed layout requires.
 
-    Control goes on behind the last of them at the report's `code_bytes`, and slots stand from `slots_at` on: a jump back goes there where
-    there are no slots. A target that is the start of a moved instruction follows it, also where that is the first: a loop onto itself
-    becomes one at the new address.
+    Control leaves the last instruction at offset `report.code_bytes`; slots begin at `report.slots_at`. There is space for a jump back if
+    there are no slots. Because targets are followed, a loop of one instruction stays a loop at the new address.
 
-    Refused, with a report: BAD_MODE, TOO_LARGE, WRAPS, INVALID, TOO_SHORT, TOO_MANY, TOO_FAR, NO_MEMORY.
+    Raises Refusal with a report and BAD_MODE, TOO_LARGE (more than MAX_CODE bytes), WRAPS, TOO_MANY, TOO_FAR or NO_MEMORY, and InvalidCode or
+    TooShort if the bytes are not instructions from end to end.
 
     >>> moved = move(64, 0x1000, bytes.fromhex("e80b000000 c3"), 0x2000)
     >>> moved.code.hex(), [hex(place.new_ip) for place in moved.places]
@@ -373,8 +379,8 @@ def move(bits: int, old_ip: int, code: Buffer, new_ip: int) -> MovedCode:
 
 
 def move_outside(bits: int, old_ip: int, code: Buffer, new_ip: int) -> MovedCode:
-    """The same as `move`, but every target stays where it was, also one that is moved: what a hook and single stepping want, since the
-    rest of the program still goes to the old place. Refused as `move` is.
+    """Moves code as `move` does, but every target stays, even one that is moved itself. Use it for single stepping and hooks, because the
+    rest of the program still goes to the old address. Raises what `move` raises.
 
     >>> loop = bytes.fromhex("ebfe")
     >>> [call(64, 0x1000, loop, 0x1080).code.hex() for call in (move, move_outside)]
@@ -386,8 +392,8 @@ def move_outside(bits: int, old_ip: int, code: Buffer, new_ip: int) -> MovedCode
 
 
 class Reached(NamedTuple):
-    """The offset of an instruction that control reaches, the offset at which its basic block begins, and where control goes behind it:
-    a `Flow`, or `Reason.INVALID` or `Reason.TOO_SHORT` where no instruction is read there.
+    """A reached instruction: its offset, the offset of the first instruction of its basic block, and its flow. The flow is a `Flow`, or
+    `Reason.INVALID` or `Reason.TOO_SHORT` if no instruction is decoded there.
 
     >>> flow(64, 0, bytes.fromhex("90c3"))[1]
     Reached(start=1, leader=0, kind=<Flow.RETURN: 4>)
@@ -402,11 +408,11 @@ _KINDS: Dict[int, Union[Flow, Reason]] = {**{int(kind): kind for kind in Flow}, 
 
 
 def flow(bits: int, base: int, code: Buffer, entries: Union[int, Iterable[int]] = 0) -> List[Reached]:
-    """The instructions that control reaches from the first byte of code, which has the address `base`, in ascending order; or from one or
-    many other offsets, `entries`, of which those outside the code add nothing. Each entry begins a basic block.
+    """Follows control from the first byte of `code`, which has the address `base`, or from the offsets `entries`. Returns the reached
+    instructions in ascending order.
 
-    Where it goes on behind a call, and to the procedure that is called, if that is in the code. Refused: BAD_MODE, TOO_LARGE (above
-    MAX_FLOW bytes), NO_MEMORY.
+    Each entry begins a basic block; entries outside the code are ignored. Calls are followed to targets in the code, and every call is
+    assumed to return. Indirect targets are unknown. Raises Refusal with BAD_MODE, TOO_LARGE (more than MAX_FLOW bytes) or NO_MEMORY.
 
     >>> [(reached.start, reached.leader) for reached in flow(64, 0x1000, bytes.fromhex("7401 90 c3 90"))]
     [(0, 0), (2, 2), (3, 3)]
@@ -419,7 +425,7 @@ def flow(bits: int, base: int, code: Buffer, entries: Union[int, Iterable[int]] 
         chosen = [_checks.number("each of entries", entry, _checks.U32) for entry in entries]
     else:
         chosen = [_checks.number("entries", entries, _checks.U32)]
-    # a row for each byte at the most; past the limit the library looks at none
+    # at most one entry for each byte; above the limit the library decodes none
     room = min(len(code), _native.MAX_FLOW)
     starts, leaders, kinds = (c_uint32 * room)(), (c_uint32 * room)(), bytearray(room)
     count = taken(
@@ -432,10 +438,10 @@ def flow(bits: int, base: int, code: Buffer, entries: Union[int, Iterable[int]] 
 
 
 class Detour(NamedTuple):
-    """Both parts of a hook, and where the parts of the trampoline stand in it: None for what there is not.
+    """Both parts of a hook.
 
-    `patch` replaces as many of the function's first bytes; `trampoline` stands at the place that it was made for, and is called in place
-    of the function.
+    Write `patch` over the first bytes of the function, and `trampoline` to the place for which it was made. Calling the trampoline is calling
+    the original function. `jump_back`, `slots` and `relay` are the offsets of these parts of the trampoline, None for an absent one.
 
     >>> made = detour(64, 0x1000, bytes.fromhex("4883ec18 31c0 c3"), 0x2000, 0x3000)
     >>> made.patch.hex(), made.trampoline.hex(), made.jump_back
@@ -452,19 +458,22 @@ class Detour(NamedTuple):
 
 
 def detour(bits: int, ip: int, code: Buffer, to: int, place: int, start: int = Start.MOVED) -> Detour:
-    """The patch and the trampoline of a hook of the function at `ip`, whose bytes from its first one on are `code`: calls of it come to `to`,
-    and the trampoline, which will stand at `place`, does what it did.
+    """Makes the patch and the trampoline that hook the function at address `ip`.
 
-    The jump is the first that reaches: the near one; a near one to a relay behind the trampoline; 14 bytes with the address. Nothing is
-    written to the function. `code` should be the whole of it: a branch into what is written over is found in it, and nowhere else.
+    `code` has the bytes of the function from its first one. Give the whole function: a branch into the overwritten bytes is found in `code`
+    alone. `to` is the address of the replacement. `place` is the address at which the trampoline will be placed; within 2 gigabytes of the
+    function the jump has 5 bytes. `start` is a `Start`. Nothing is written to the function.
 
-    Refused, with a report: BAD_MODE, BAD_START, TOO_LARGE, INVALID, TOO_SHORT, SMALL, ENDS, ENTERED, WRAPS, TOO_FAR, NO_MEMORY.
+    The jump is the first form that reaches: a near jump; a near jump to a relay after the trampoline; 14 bytes with the address.
+
+    Raises Refusal with a report and BAD_MODE, BAD_START, TOO_LARGE (more than MAX_CODE bytes), SMALL, ENDS, ENTERED, WRAPS, TOO_FAR or NO_MEMORY,
+    and InvalidCode or TooShort if the bytes to be overwritten are not instructions.
 
     >>> try:
     ...     detour(64, 0x1000, bytes.fromhex("31c0 ffc0 39f8 72fa c3"), 0x2000, 0x3000)
     ... except Refusal as refusal:
     ...     print(refusal)
-    control may go into what would be written over: from offset 6, to offset 2
+    control may enter the bytes to be overwritten: from offset 6, to offset 2
     """
     code = _checks.code_bytes("code", code)
     bits, ip = _checks.number("bits", bits, _checks.U32), _checks.number("ip", ip)

@@ -1,16 +1,18 @@
 """The codes of common instructions. codes.py writes this file from the rows of the table."""
 
-import enum
+from ._numbers import Named
 
 
-class Code(enum.IntEnum):
-    """The codes of common instructions, for an `Instr`; `code_of` finds all others.
+class Code(Named):
+    """The codes of common instructions, for an `Instr`; `code_of` finds the others.
 
-    RM is a register or memory, REL an offset, IMM an immediate, and the number its bits. JMP, CALL, Jcc, RET, PUSH, POP and LEAVE are those
-    of 64-bit code, but where _O32, R32 or RM32 says that they are of 32-bit code.
+    In the names RM is a register or memory, REL an offset and IMM an immediate, and a number is a width in bits. JMP, CALL, Jcc, RET, PUSH,
+    POP and LEAVE are of 64-bit code, unless _O32, R32 or RM32 marks them as 32-bit code.
 
     >>> Instr(Code.JMP_REL32, Near(0x2000)).encode(64, 0x1000).hex()
     'e9fb0f0000'
+    >>> print(Code.JMP_REL32)
+    Code.JMP_REL32
     >>> Code.JMP_REL32 == code_of("jmp", "o64 E9 cd")
     True
     """

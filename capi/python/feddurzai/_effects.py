@@ -1,4 +1,4 @@
-"""What an instruction touches: registers, memory, flags and features, those that no operand names too."""
+"""What an instruction touches: registers, memory, flags and features, named and implied."""
 
 from __future__ import annotations
 
@@ -17,13 +17,13 @@ _SETS = struct.Struct("=Q6I")
 _MEMORY = struct.Struct("=QH7B7x")
 _MEMORY_AT, _REGISTERS_AT, _COUNTS_AT, _SIZE = 32, 128, 224, 232
 _TouchedRoom = _native.room_of(_SIZE)
-# where the address size of a feddurzai_instr stands
+# the offset of the address size in a feddurzai_instr
 _ASIZE_AT = 102
 
 
 @dataclass(frozen=True)
 class RegisterUse:
-    """A register that an instruction touches, and what is done to it.
+    """A register that an instruction touches, and how it is accessed.
 
     >>> [(str(use.register), use.access == Touch.READ | Touch.WRITE) for use in decode(64, 0, bytes.fromhex("c3")).effects().registers]
     [('rsp', True)]
@@ -35,10 +35,11 @@ class RegisterUse:
 
 @dataclass(frozen=True)
 class MemoryUse:
-    """Memory that an instruction touches: an address of a segment, as base, index times scale and displacement, and what is done there.
+    """Memory that an instruction accesses: segment:[base + index * scale + displacement].
 
-    The registers count with the values that they have before the instruction. `displacement` is signed beside a base or an index; with
-    the base RIP or EIP it is the absolute address. `size` counts the bytes; it is 0 where the processor's state decides (XSAVE, XRSTOR).
+    The registers have the values that they hold before the instruction, except that POP to memory at rSP uses the incremented rSP.
+    `displacement` is signed if there is a base or an index; with the base RIP or EIP it is the absolute address. `size` is in bytes, and 0 if
+    the processor's state decides (XSAVE, XRSTOR).
 
     >>> push = decode(64, 0, bytes.fromhex("53")).effects().memory[0]
     >>> str(push), push.segment.name, push.size, push.access == Touch.WRITE
@@ -66,21 +67,23 @@ class MemoryUse:
 
 @dataclass(frozen=True)
 class Effects:
-    """What an instruction touches.
+    """What an instruction touches, named by its operands or implied.
 
-    `registers` has those that its operands name, then the segment registers that memory is read through, then those that no operand
-    names, and last the counter of a repeat prefix; a register may be there twice. `memory` has the memory operand, then what is implied.
+    `registers` has the registers that operands name, then the segment registers through which memory is accessed, then implied registers,
+    and last the counter of a repeat prefix. A register may occur more than once. An MMX register overlaps an x87 register, which is not
+    reported (see `Register.full`). `memory` has the memory operand, then implied memory.
 
-    The flags: what it does depends on `flags_read`; it gives `flags_written` a value, of which `flags_cleared` become 0 and `flags_set` 1;
-    `flags_undefined` are undefined behind it. All others stay, and of these two `flags_kept` may stay, as by a shift whose count is 0.
+    The instruction depends on `flags_read`. It gives `flags_written` a defined value; of these, `flags_cleared` become 0 and `flags_set`
+    become 1. The manual leaves `flags_undefined` undefined. All other flags stay. The instruction may also keep the flags of `flags_kept`, as
+    a shift by a count of 0 does.
 
-    `features` are the names of the CPUID features that it needs, all of them.
+    `features` has the names of all CPUID features that the instruction needs.
 
-    >>> told = decode(64, 0, bytes.fromhex("f3a4")).effects()
-    >>> [(str(use.register), int(use.access)) for use in told.registers]
-    [('rsi', 12), ('rdi', 12), ('rcx', 9)]
-    >>> [str(memory) for memory in told.memory], told.flags_read == Flags.DF
-    (['ds:[rsi]', 'es:[rdi]'], True)
+    >>> moves = decode(64, 0, bytes.fromhex("f3a4")).effects()
+    >>> [(str(use.register), str(use.access)) for use in moves.registers]
+    [('rsi', 'Touch.MAY_READ|MAY_WRITE'), ('rdi', 'Touch.MAY_READ|MAY_WRITE'), ('rcx', 'Touch.READ|MAY_WRITE')]
+    >>> [str(memory) for memory in moves.memory], str(moves.flags_read)
+    (['ds:[rsi]', 'es:[rdi]'], 'Flags.DF')
     """
 
     registers: Tuple[RegisterUse, ...]
@@ -128,7 +131,7 @@ def _features_of(bits: int) -> FrozenSet[str]:
 
 
 def effects_of(bits: int, instr: bytes) -> Effects:
-    """What the instruction of a struct touches, in a mode."""
+    """What the instruction in a struct touches, in a mode."""
     room = _TouchedRoom()
     taken(_native.effects(_checks.number("bits", bits, _checks.U32), instr, room))
     told = room.raw

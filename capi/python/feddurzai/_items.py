@@ -1,4 +1,4 @@
-"""Instructions, and what else `iterate` gives."""
+"""Instructions, and the other items of `iterate`."""
 
 from __future__ import annotations
 
@@ -26,9 +26,9 @@ Bytes = bytes
 
 
 class Item:
-    """What stands at an address: an `Instr`, a `BadByte` or a `Rest`, as `kind` says.
+    """An item of `iterate`: an `Instr`, a `BadByte` or a `Rest`. Its `kind` is an `ItemKind`.
 
-    `address` is that of its first byte, `bytes` are those that it takes, and `len` and `len(item)` say how many.
+    `address` is the address of its first byte, `bytes` has its bytes, and `len` and `len(item)` are their number.
 
     >>> [(item.address, item.kind.name, item.bytes.hex()) for item in iterate(64, 0x1000, bytes.fromhex("90 06 48"))]
     [(4096, 'INSTRUCTION', '90'), (4097, 'INVALID', '06'), (4098, 'TOO_SHORT', '48')]
@@ -45,7 +45,7 @@ class Item:
 
     @property
     def len(self) -> int:
-        """How many bytes it takes.
+        """Its length in bytes.
 
         >>> decode(64, 0, bytes.fromhex("90")).len
         1
@@ -73,7 +73,7 @@ class Item:
         return f"<{type(self).__name__} {self.address:#x}: {self.bytes.hex()}>"
 
     def text(self, syntax: int = Style.INTEL) -> str:
-        """Its text in a style; of what is no instruction a word in brackets.
+        """Its text in a `Style`; for an item that is not an instruction, words in brackets.
 
         >>> [item.text(Style.ATT) for item in iterate(64, 0, bytes.fromhex("c3 06 48"))]
         ['ret', '(bad)', '(the bytes end here)']
@@ -82,7 +82,7 @@ class Item:
 
 
 class BadByte(Item):
-    """A byte with which no instruction begins, whatever would stand behind the bytes.
+    """A byte with which no instruction begins, whatever follows the bytes.
 
     >>> next(iterate(64, 0x1000, bytes.fromhex("06")))
     <BadByte 0x1000: 06>
@@ -92,7 +92,7 @@ class BadByte(Item):
     kind = ItemKind.INVALID
 
     def text(self, syntax: int = Style.INTEL) -> str:
-        """A word in brackets.
+        """A word in brackets, in every style.
 
         >>> BadByte(0, bytes.fromhex("06")).text()
         '(bad)'
@@ -101,7 +101,7 @@ class BadByte(Item):
 
 
 class Rest(Item):
-    """The last bytes, which end before an instruction does.
+    """The last bytes, which end before the instruction does.
 
     >>> next(iterate(64, 0x1000, bytes.fromhex("4883c4")))
     <Rest 0x1000: 4883c4>
@@ -111,7 +111,7 @@ class Rest(Item):
     kind = ItemKind.TOO_SHORT
 
     def text(self, syntax: int = Style.INTEL) -> str:
-        """Words in brackets.
+        """Words in brackets, in every style.
 
         >>> Rest(0, bytes.fromhex("48")).text()
         '(the bytes end here)'
@@ -120,13 +120,13 @@ class Rest(Item):
 
 
 class Instr(Item):
-    """An instruction, as `decode` reads it or as it is made: Instr(code, operands..).
+    """An instruction, decoded by `decode` or constructed: Instr(code, operands..).
 
-    One that was read has an `address`, its `bytes` and its mode `bits`; one that was made has None, b"" and None. Two are equal where
-    code, operands and prefixes are; where they stood and with which bytes plays no part. It is not changed: `replace` makes another.
+    A decoded one has an `address`, its `bytes` and its mode `bits`; a constructed one has None, b"" and None. Two are equal if code, operands
+    and prefixes are; addresses and bytes are not compared. An `Instr` is immutable: `replace` returns another.
 
-    `asize` is 16, 32 or 64 where the instruction has a memory operand or uses an address size, else 0. None takes it from the
-    registers of the memory operand; where these tell none it has to be named.
+    `asize` is 16, 32 or 64 if the instruction has a memory operand or uses an address size, else 0. None takes it from the registers of the
+    memory operand; if these do not determine it, pass it.
 
     >>> mov = decode(64, 0x1000, bytes.fromhex("48895c2410"))
     >>> mov
@@ -151,10 +151,10 @@ class Instr(Item):
         asize: Optional[int] = None,
     ) -> None:
         if len(ops) > 4:
-            raise ValueError(f"an instruction has at most 4 operands, not {len(ops)}")
+            raise ValueError(f"an instruction has at most 4 operands, and {len(ops)} were given")
         for n, op in enumerate(ops):
             if not isinstance(op, OPERANDS):
-                raise TypeError(f"operand {n} is a Register, Memory, Immediate, Near or Far, not {type(op).__name__}")
+                raise TypeError(f"operand {n} must be a Register, Memory, Immediate, Near or Far, not {type(op).__name__}")
         if asize is None:
             asize = next((op._address_bits() for op in ops if isinstance(op, Memory)), 0)
         values: Tuple[int, ...] = ()
@@ -175,7 +175,7 @@ class Instr(Item):
 
     @property
     def code(self) -> int:
-        """The row of the table.
+        """The code: the number of its row of the table.
 
         >>> decode(64, 0, bytes.fromhex("c3")).code in codes_of("ret")
         True
@@ -184,7 +184,7 @@ class Instr(Item):
 
     @property
     def name(self) -> str:
-        """The name of its row, a mnemonic in lower case; its text may have another by the operand size.
+        """The name of its row: a mnemonic in lower case. Its text may have another name, by the address size.
 
         >>> decode(64, 0, bytes.fromhex("90")).name
         'nop'
@@ -217,7 +217,7 @@ class Instr(Item):
 
     @property
     def rep(self) -> Repeat:
-        """Its repeat prefix.
+        """Its repeat prefix, `Repeat.NONE` without one.
 
         >>> decode(64, 0, bytes.fromhex("f3a4")).rep.name
         'REP'
@@ -226,7 +226,7 @@ class Instr(Item):
 
     @property
     def segment(self) -> Segment:
-        """Its segment prefix.
+        """Its segment prefix, `Segment.NONE` without one.
 
         >>> decode(64, 0, bytes.fromhex("64488b00")).segment.name
         'FS'
@@ -235,7 +235,7 @@ class Instr(Item):
 
     @property
     def asize(self) -> int:
-        """Its address size, 0 where it uses none.
+        """Its address size in bits, 0 if it uses none.
 
         >>> decode(64, 0, bytes.fromhex("67488b00")).asize, decode(64, 0, bytes.fromhex("90")).asize
         (32, 0)
@@ -243,7 +243,7 @@ class Instr(Item):
         return self._struct[ASIZE_AT]
 
     def replace(self, **changes: Any) -> Instr:
-        """Another instruction with some of `code`, `ops`, `lock`, `rep`, `segment` and `asize` changed.
+        """Returns a copy with some of `code`, `ops`, `lock`, `rep`, `segment` and `asize` changed.
 
         >>> je = decode(64, 0x1000, bytes.fromhex("7410"))
         >>> je.replace(ops=[Near(0x1080)]).encode(64, 0x1000).hex()
@@ -251,13 +251,13 @@ class Instr(Item):
         """
         wrong = set(changes) - {"code", "ops", "lock", "rep", "segment", "asize"}
         if wrong:
-            raise TypeError(f"an instruction has no {', '.join(sorted(wrong))} to change")
+            raise TypeError(f"an instruction has no {', '.join(sorted(wrong))}: replace takes code, ops, lock, rep, segment and asize")
         kept = {what: getattr(self, what) for what in ("lock", "rep", "segment", "asize")}
         code, ops = changes.pop("code", self.code), changes.pop("ops", self.ops)
         return Instr(code, *ops, **{**kept, **changes})
 
     def text(self, syntax: int = Style.INTEL, bits: Optional[int] = None) -> str:
-        """Its text in a style. One that was made needs the mode. Refused: BAD_MODE, BAD_SYNTAX, BAD_INSTR, BAD_FORM.
+        """Its text in a `Style`. For a constructed instruction, pass the mode. Raises Refusal with BAD_MODE, BAD_SYNTAX, BAD_INSTR or BAD_FORM.
 
         >>> decode(64, 0, bytes.fromhex("83c005")).text(Style.ATT)
         'add $0x5, %eax'
@@ -265,13 +265,13 @@ class Instr(Item):
         if bits is not None:
             bits = _checks.number("bits", bits, _checks.U32)
         elif self.bits is None:
-            raise ValueError("an instruction that was made has no mode: name it, as in text(bits=64)")
+            raise ValueError("a constructed instruction has no mode: pass it, as in text(bits=64)")
         else:
             bits = self.bits
         return text_of(bits, self._struct, syntax)
 
     def encode(self, bits: int, ip: int) -> Bytes:
-        """The shortest bytes that are read as this instruction at the address `ip`: see the function `encode`.
+        """Returns the shortest bytes that decode to it at the address `ip`: see the function `encode`.
 
         >>> decode(64, 0x1000, bytes.fromhex("c4e17877")).encode(64, 0x1000).hex()
         'c5f877'
@@ -279,7 +279,7 @@ class Instr(Item):
         return encode_of(bits, ip, self._struct)
 
     def info(self) -> About:
-        """What it does: see the function `info`.
+        """Reports flow, operand access, memory size and named registers: see the function `info`.
 
         >>> decode(64, 0, bytes.fromhex("48895c2410")).info().memory_size
         8
@@ -287,7 +287,7 @@ class Instr(Item):
         return info_of(self._struct)
 
     def effects(self, bits: Optional[int] = None) -> Effects:
-        """What it touches: see the function `effects`. One that was made needs the mode.
+        """Reports what it touches: see the function `effects`. For a constructed instruction, pass the mode.
 
         >>> sorted(decode(64, 0, bytes.fromhex("c4e27d18c1")).effects().features)
         ['AVX2']
@@ -295,11 +295,11 @@ class Instr(Item):
         if bits is None:
             bits = self.bits
             if bits is None:
-                raise ValueError("an instruction that was made has no mode: name it, as in effects(bits=64)")
+                raise ValueError("a constructed instruction has no mode: pass it, as in effects(bits=64)")
         return effects_of(bits, self._struct)
 
     def _key(self) -> Tuple[int, ...]:
-        """All fields but the length: the bytes between them may be any."""
+        """All fields except the length; padding bytes are not compared."""
         values = _STRUCT.unpack(self._struct)
         return values[: 4 * _OP_FIELDS + 1] + values[4 * _OP_FIELDS + 2 :]
 

@@ -1,4 +1,4 @@
-"""The shared library: where it is, and the types of its calls."""
+"""The shared library: its location, and the types of its functions."""
 
 from __future__ import annotations
 
@@ -6,7 +6,7 @@ import ctypes
 import os
 from typing import Callable, List, Tuple, Type
 
-# of the header that this package was written for
+# the interface of the header for which this package is written
 INTERFACE = 3
 
 MAX_LEN = 15
@@ -25,14 +25,14 @@ _HERE = os.path.dirname(os.path.abspath(__file__))
 
 
 def _places() -> List[str]:
-    """Where the library may be, in the order in which it is looked for; the last by the system's rules."""
+    """The file to load: that of FEDDURZAI_LIBRARY, else the first that exists, else the soname, which the system's loader resolves."""
     named = os.environ.get("FEDDURZAI_LIBRARY")
     if named:
         return [named]
     beside = [
-        os.path.join(_HERE, SONAME),  # pip copied it there
-        os.path.join(_HERE, "..", "..", "out", "libfeddurzai.so"),  # in the clone, by build.sh
-        os.path.join(_HERE, "..", "..", "..", "..", "lib", SONAME),  # in a prefix, by install.sh
+        os.path.join(_HERE, SONAME),  # installed by pip
+        os.path.join(_HERE, "..", "..", "out", "libfeddurzai.so"),  # in the clone, built by build.sh
+        os.path.join(_HERE, "..", "..", "..", "..", "lib", SONAME),  # in a prefix, installed by install.sh
     ]
     return [os.path.normpath(place) for place in beside if os.path.exists(place)][:1] or [SONAME]
 
@@ -42,19 +42,19 @@ def _load() -> Tuple[ctypes.CDLL, ctypes.PyDLL]:
     try:
         return ctypes.CDLL(place), ctypes.PyDLL(place)
     except OSError as error:
-        words = "build it by capi/build.sh, or name its file in the environment's FEDDURZAI_LIBRARY"
-        raise ImportError(f"the shared library of Feddurzai is not loaded ({error}): {words}") from None
+        words = "build it with capi/build.sh, or set the environment variable FEDDURZAI_LIBRARY to its file"
+        raise ImportError(f"cannot load Feddurzai's shared library ({error}): {words}") from None
 
 
 def room_of(size: int) -> Type[ctypes.Array[ctypes.c_char]]:
-    """The type of a room of so many bytes."""
+    """The type of a buffer of `size` bytes."""
     return ctypes.c_char * size
 
 
 TextRoom = room_of(MAX_TEXT)
 
 
-# the short calls keep the interpreter's lock, which costs less than to give it up; the long ones give it up
+# short calls keep the interpreter's lock, because releasing it costs more than they take; long calls release it
 _long, _short = _load()
 _u8, _u32, _u64, _size, _at = ctypes.c_uint8, ctypes.c_uint32, ctypes.c_uint64, ctypes.c_size_t, ctypes.c_void_p
 
@@ -69,7 +69,9 @@ def _call(library: ctypes.CDLL, name: str, *types: type, result: type = ctypes.c
 
 interface = _call(_short, "interface", result=_u32)
 if interface() != INTERFACE:
-    raise ImportError(f"the shared library of Feddurzai has the interface {interface()}, and this package is for {INTERFACE}")
+    raise ImportError(
+        f"Feddurzai's shared library ({_long._name}) has interface {interface()}, but this package needs {INTERFACE}: install both from one version"
+    )
 version = _call(_short, "version", result=_u32)
 decode = _call(_short, "decode", _u32, _u64, _at, _size, _at)
 decode_many = _call(_long, "decode_many", _u32, _u64, _at, _size, _at, _size, _at)

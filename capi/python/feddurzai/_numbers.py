@@ -3,20 +3,47 @@
 from enum import EnumMeta, IntEnum, IntFlag
 from typing import List
 
+# a format of one of these types prints the number; any other prints the name
+_NUMERIC = tuple("bcdeEfFgGnoxX%")
+
 
 class _Listed(EnumMeta):
-    """Enumerations of which help() shows the members, and not all that a whole number can do."""
+    """The metaclass of enumerations: help() shows their members, and not all methods of an integer."""
 
     def __dir__(cls) -> List[str]:
         return ["__class__", "__doc__", "__members__", "__module__", *cls.__members__]
 
 
-class _Number(IntEnum, metaclass=_Listed):
-    """A number of feddurzai.h."""
+class Named(IntEnum, metaclass=_Listed):
+    """A number of feddurzai.h. It prints as its name, such as `Flow.NEXT`; `int(..)` and formats such as `:d` give the number."""
+
+    def __str__(self) -> str:
+        return f"{type(self).__name__}.{self.name}"
+
+    def __format__(self, spec: str) -> str:
+        return int.__format__(self, spec) if spec.endswith(_NUMERIC) else format(str(self), spec)
 
 
-class Style(_Number):
-    """How a text is written.
+class _Bits(IntFlag, metaclass=_Listed):
+    """A set of bits of feddurzai.h. It prints as the names of its members, such as `Flags.CF|ZF`, and `Flags(0)` if it is empty."""
+
+    def __str__(self) -> str:
+        kind, rest = type(self), int(self)
+        names = []
+        for name, member in kind.__members__.items():
+            if rest & member == member:
+                names.append(name)
+                rest &= ~int(member)
+        if not names:
+            return f"{kind.__name__}({rest:#x})" if rest else f"{kind.__name__}(0)"
+        return f"{kind.__name__}.{'|'.join([*names, hex(rest)] if rest else names)}"
+
+    def __format__(self, spec: str) -> str:
+        return int.__format__(self, spec) if spec.endswith(_NUMERIC) else format(str(self), spec)
+
+
+class Style(Named):
+    """The style of a text. docs/texts.md describes the three.
 
     >>> mov = decode(64, 0, bytes.fromhex("48895c2410"))
     >>> [mov.text(style) for style in Style]
@@ -28,11 +55,14 @@ class Style(_Number):
     MASM = 2
 
 
-class Flow(_Number):
-    """Where control goes behind an instruction.
+class Flow(Named):
+    """Where control goes after an instruction.
 
-    >>> decode(64, 0, bytes.fromhex("7410")).info().flow
-    <Flow.CONDITIONAL: 3>
+    CONDITIONAL goes to a target in the instruction or to the next one. CALL, which SYSCALL and SYSENTER are too, goes to a procedure and
+    later to the next instruction. INTERRUPT is INT, INT1, INT3 and INTO; EXCEPTION is UD1 and UD2.
+
+    >>> print(decode(64, 0, bytes.fromhex("7410")).info().flow)
+    Flow.CONDITIONAL
     """
 
     NEXT = 0
@@ -46,8 +76,8 @@ class Flow(_Number):
     EXCEPTION = 8
 
 
-class Access(_Number):
-    """What is done to the whole of an operand or register; a write of a part is a read and a write.
+class Access(Named):
+    """How an instruction accesses the whole of an operand or register. A write of a part counts as a read and a write.
 
     >>> decode(64, 0, bytes.fromhex("4889c3")).info().access
     (<Access.WRITE: 2>, <Access.READ: 1>)
@@ -59,13 +89,13 @@ class Access(_Number):
     READ_WRITE = 3
 
 
-class Touch(IntFlag, metaclass=_Listed):
-    """What is done to a register or to memory that an instruction touches, in `effects`.
+class Touch(_Bits):
+    """How `effects` reports the access of a register or of memory.
 
-    MAY_READ and MAY_WRITE are what a condition, a mask, or a repeat prefix whose counter is 0 may prevent.
+    MAY_READ and MAY_WRITE are for an access that a condition, a mask, or a repeat prefix with a counter of 0 may suppress.
 
-    >>> [use.access == Touch.MAY_READ | Touch.MAY_WRITE for use in decode(64, 0, bytes.fromhex("f3ab")).effects().registers]
-    [False, True, False]
+    >>> [str(use.access) for use in decode(64, 0, bytes.fromhex("f3ab")).effects().registers]
+    ['Touch.MAY_READ', 'Touch.MAY_READ|MAY_WRITE', 'Touch.READ|MAY_WRITE']
     """
 
     READ = 1
@@ -74,11 +104,14 @@ class Touch(IntFlag, metaclass=_Listed):
     MAY_WRITE = 8
 
 
-class Flags(IntFlag, metaclass=_Listed):
-    """Flags: those of EFLAGS at their bits there, and the condition bits of the x87 status word at theirs and 16 more. IOPL has two bits.
+class Flags(_Bits):
+    """Flags. Those of EFLAGS have their bits of that register; C0 to C3 of the x87 status word have their bits of that word plus 16. IOPL
+    has two bits.
 
     >>> decode(64, 0, bytes.fromhex("11d8")).effects().flags_read == Flags.CF
     True
+    >>> print(Flags.CF | Flags.ZF, Flags(0))
+    Flags.CF|ZF Flags(0)
     """
 
     CF = 0x1
@@ -104,8 +137,8 @@ class Flags(IntFlag, metaclass=_Listed):
     C3 = 0x40000000
 
 
-class OperandKind(_Number):
-    """What an operand is: the `kind` of each of `Register`, `Memory`, `Immediate`, `Near` and `Far`.
+class OperandKind(Named):
+    """The kind of an operand: the `kind` of each of `Register`, `Memory`, `Immediate`, `Near` and `Far`.
 
     >>> [op.kind.name for op in decode(64, 0, bytes.fromhex("83c005")).ops]
     ['REGISTER', 'IMMEDIATE']
@@ -119,8 +152,8 @@ class OperandKind(_Number):
     FAR = 5
 
 
-class RegClass(_Number):
-    """The class of a register; feddurzai.h says which numbers each has.
+class RegClass(Named):
+    """The class of a register. The numbers of a class begin at 0; feddurzai.h lists them.
 
     >>> decode(64, 0, bytes.fromhex("4889c3")).ops[0].reg_class
     <RegClass.R64: 5>
@@ -143,8 +176,8 @@ class RegClass(_Number):
     RIP = 14
 
 
-class Segment(_Number):
-    """A segment prefix.
+class Segment(Named):
+    """A segment prefix, NONE without one. These are not the numbers of the class `RegClass.SEG`, which begin at 0.
 
     >>> decode(64, 0, bytes.fromhex("64488b0425 28000000")).segment
     <Segment.FS: 5>
@@ -159,8 +192,8 @@ class Segment(_Number):
     GS = 6
 
 
-class Repeat(_Number):
-    """A repeat prefix.
+class Repeat(Named):
+    """A repeat prefix, NONE without one.
 
     >>> decode(64, 0, bytes.fromhex("f3a4")).rep
     <Repeat.REP: 243>
@@ -171,8 +204,8 @@ class Repeat(_Number):
     REP = 0xF3
 
 
-class ItemKind(_Number):
-    """What an item of `iterate` is.
+class ItemKind(Named):
+    """The kind of an item of `iterate`.
 
     >>> [item.kind.name for item in iterate(64, 0, bytes.fromhex("90 06 48"))]
     ['INSTRUCTION', 'INVALID', 'TOO_SHORT']
@@ -183,8 +216,8 @@ class ItemKind(_Number):
     TOO_SHORT = 2
 
 
-class Form(_Number):
-    """How the image of a moved instruction is made.
+class Form(Named):
+    """The form of a moved instruction: the instruction itself, or one of the forms of a branch. docs/moving.md lists the bytes of each.
 
     >>> move(64, 0x1000, bytes.fromhex("7410"), 0x7fff00000000).places[0].form
     <Form.FAR: 3>
@@ -198,8 +231,8 @@ class Form(_Number):
     FAR_BRIDGE = 5
 
 
-class Jump(_Number):
-    """A form of a jump or a call, for `jump`. FAR and CALL_FAR hold the target in 8 bytes behind the code, in 64-bit mode.
+class Jump(Named):
+    """The form of a jump or a call, for `jump`. FAR and CALL_FAR exist in 64-bit mode alone and hold the target in the 8 bytes that follow.
 
     >>> [jump(64, 0x1000, 0x1010, form).hex() for form in (Jump.SHORT, Jump.NEAR)]
     ['eb0e', 'e90b000000']
@@ -212,10 +245,10 @@ class Jump(_Number):
     CALL_FAR = 5
 
 
-class Start(_Number):
-    """What becomes of a moved branch to the function's own start, for `detour`.
+class Start(Named):
+    """The target of a moved branch that went to the function's own start, for `detour`.
 
-    MOVED: it goes to the moved first instruction. HOOKED: it stays, and comes to the replacement.
+    MOVED: the moved first instruction, so a loop stays in the trampoline. HOOKED: the start, and so the replacement.
 
     >>> loop = bytes.fromhex("85c9 75fc 31c0 90 c3")
     >>> [detour(64, 0x1000, loop, 0x2000, 0x3000, start).trampoline.hex() for start in Start]
@@ -226,8 +259,8 @@ class Start(_Number):
     HOOKED = 1
 
 
-class DetourForm(_Number):
-    """How the jump of a detour goes to the replacement: near, near to a relay, or by 14 bytes with the address.
+class DetourForm(Named):
+    """The form of the jump of a detour: a near jump, a near jump to a relay, or 14 bytes with the address.
 
     >>> detour(64, 0x1000, bytes.fromhex("4883ec18 31c0 c3"), 0x2000, 0x3000).form
     <DetourForm.NEAR: 1>
@@ -238,14 +271,14 @@ class DetourForm(_Number):
     ABSOLUTE = 3
 
 
-class Reason(_Number):
-    """Why a call is refused: the numbers of the library.
+class Reason(Named):
+    """Why the library refuses a call: its statuses.
 
     >>> try:
     ...     decode(17, 0, b"")
     ... except Refusal as refusal:
-    ...     refusal.reason
-    <Reason.BAD_MODE: -1>
+    ...     print(refusal.reason)
+    Reason.BAD_MODE
     """
 
     BAD_MODE = -1
@@ -278,14 +311,14 @@ class Reason(_Number):
     NO_ENCODING = -256
 
 
-class Cause(_Number):
-    """Why `encode` finds no encoding: the first of ten conditions that fails.
+class Cause(Named):
+    """Why an instruction has no encoding: the first of ten conditions that fails.
 
     >>> try:
     ...     Instr(code_of("inc", "FE /0"), Immediate(1)).encode(64, 0)
     ... except Refusal as refusal:
-    ...     refusal.cause
-    <Cause.KIND: 2>
+    ...     print(refusal.cause)
+    Cause.KIND
     """
 
     ROW = 1

@@ -1,4 +1,4 @@
-"""Where the parts of an instruction stand in its bytes."""
+"""The parts of an instruction in its bytes."""
 
 from typing import NamedTuple, Tuple
 
@@ -11,7 +11,7 @@ _Room = _native.room_of(2 * _PARTS)
 
 
 class Part(NamedTuple):
-    """A part of an instruction: the offset of its first byte, and how many bytes it has, 0 where it is not there.
+    """A part of an instruction: the offset of its first byte, and its length in bytes, 0 if it is absent.
 
     >>> offsets(64, b"\\x6a\\x05").immediates[0]
     Part(at=1, len=1)
@@ -22,8 +22,8 @@ class Part(NamedTuple):
 
 
 class Offsets(NamedTuple):
-    """The parts of an instruction in their order, and its length. `prefixes` has a REX too, and `lead` is the VEX or the escape bytes.
-    `immediates` has each operand's own bytes: an immediate, the offset of a near branch, a far pointer or the byte that names a register.
+    """The parts of an instruction in the order of its bytes, and its length. `prefixes` includes REX, and `lead` is VEX or the escape bytes.
+    `immediates` has the bytes of each operand: its immediate, the offset of a near branch, a far pointer, or the byte that names a register.
 
     >>> offsets(64, bytes.fromhex("48c7431012345678")).displacement
     Part(at=3, len=1)
@@ -40,9 +40,9 @@ class Offsets(NamedTuple):
 
 
 def offsets(bits: int, code: Buffer, at: int = 0) -> Offsets:
-    """Where the parts of the instruction stand that begins `at` an offset of some bytes; offsets count from its first byte.
+    """Finds the parts of the instruction at offset `at` of `code` (Intel SDM volume 2, 2.1). Their offsets count from its first byte.
 
-    Raises InvalidCode and TooShort as `decode` does, and refuses BAD_MODE.
+    Raises InvalidCode, TooShort, and Refusal with BAD_MODE, as `decode` does.
 
     >>> found = offsets(64, bytes.fromhex("48895c2410"))
     >>> found.modrm, found.sib, found.displacement, found.len

@@ -15,13 +15,13 @@ from ._refusal import taken
 Fields = Tuple[int, ...]
 ABSENT: Fields = (0,) * 10
 
-# the address size that a register of a class has in an address
+# the address size of an address with a register of this class
 ADDRESS_BITS = {RegClass.R16: 16, RegClass.R32: 32, RegClass.EIP: 32, RegClass.R64: 64, RegClass.RIP: 64}
 
 
 @dataclass(frozen=True)
 class Register:
-    """A register: its class, and its number in it. As an operand, or in an address.
+    """A register, as an operand or in an address: its class, and its number in the class.
 
     >>> Register(RegClass.R64, 3)
     Register(reg_class=<RegClass.R64: 5>, number=3)
@@ -38,7 +38,7 @@ class Register:
         _checks.number("number", self.number, _checks.U8)
 
     def name(self, syntax: int = Style.INTEL) -> str:
-        """Its name in a style. Refused where its class has no such number.
+        """Its name in a `Style`. Raises Refusal with NO_REGISTER if its class has no such number.
 
         >>> Register(RegClass.SEG, 4).name(Style.ATT)
         '%fs'
@@ -46,8 +46,11 @@ class Register:
         return _name_of(_checks.number("syntax", syntax, _checks.U32), self.reg_class, self.number)
 
     def full(self) -> Register:
-        """The widest register that holds it: RAX of AL, AH, AX and EAX, YMM1 of XMM1, RIP of EIP, and of any other itself. Two registers
-        touch one place where these are one. Refused where its class has no such number.
+        """The widest register that contains it: RAX for AL, AH, AX and EAX, YMM1 for XMM1, RIP for EIP, and any other register itself. Two
+        registers overlap if these are equal.
+
+        One overlap is not reported: MM0 to MM7 are the low 64 bits of the physical x87 registers R0 to R7 (Intel SDM volume 1, 9.2.2), and
+        which ST(i) that is depends on TOP, which is known only at run time. Raises Refusal with NO_REGISTER if its class has no such number.
 
         >>> [str(register(name).full()) for name in ("ah", "r9d", "xmm1", "cs")]
         ['rax', 'r9', 'ymm1', 'cs']
@@ -63,10 +66,10 @@ class Register:
 
 @dataclass(frozen=True)
 class Memory:
-    """A memory operand: base, index times scale, and displacement.
+    """A memory operand: base + index * scale + displacement.
 
-    With `base` RIP or EIP the displacement is the absolute address of the operand. Of one that was read it is signed beside a base or
-    an index, else not. `disp_bits` says how much of it is written: 0, 8, 16, 32 or 64; None is the least that holds it.
+    With `base` RIP or EIP the displacement is the absolute address of the operand. In a decoded operand it is signed if there is a base or an
+    index, else unsigned. `disp_bits` is its encoded width: 0, 8, 16, 32 or 64; None chooses the shortest that holds it.
 
     >>> Instr(code_of("lea", "REX.W + 8D /r"), register("rax"), Memory(register("rbx"), register("rcx"), 4, -8)).text(bits=64)
     'lea rax, [rbx+rcx*4-0x8]'
@@ -82,26 +85,26 @@ class Memory:
     def __post_init__(self) -> None:
         for what, part in (("base", self.base), ("index", self.index)):
             if part is not None and not isinstance(part, Register):
-                raise TypeError(f"{what} is a Register or None, not {type(part).__name__}")
+                raise TypeError(f"{what} must be a Register or None, not {type(part).__name__}")
         _checks.number("scale", self.scale, _checks.U8)
         if self.disp_bits is not None:
             _checks.number("disp_bits", self.disp_bits, _checks.U8)
         _checks.signed("displacement", self.displacement)
 
     def _address_bits(self) -> int:
-        """The address size that its registers have, 0 where they tell none."""
+        """The address size that its registers determine, 0 if they determine none."""
         for part in (self.base, self.index):
             if part is not None and part.reg_class in ADDRESS_BITS:
                 return ADDRESS_BITS[part.reg_class]
         return 0
 
     def _least_bits(self, asize: int) -> int:
-        """How much of the displacement is written at the least."""
+        """The width of the shortest displacement that holds the value."""
         most = 16 if asize == 16 else 32
         if self.base is None or self.base.reg_class in (RegClass.EIP, RegClass.RIP):
             return most
         value = signed(self.displacement, asize)
-        # the bases EBP, RBP, R13 have no form without one, and no more has BP alone
+        # the bases EBP, RBP and R13, and BP without an index, have no form without a displacement
         bare = self.base.number % 8 != 5 or asize == 16 and self.index is not None
         if value == 0 and bare:
             return 0
@@ -117,7 +120,7 @@ class Memory:
 
 @dataclass(frozen=True)
 class Immediate:
-    """An immediate. Where it is sign-extended it is cut to the operand size: of 32 bits, -1 is 0xffffffff.
+    """An immediate. A sign-extended one is truncated to the operand size: with 32 bits, -1 is 0xffffffff.
 
     >>> hex(decode(64, 0, bytes.fromhex("83c0ff")).ops[1].value)
     '0xffffffff'
@@ -135,7 +138,7 @@ class Immediate:
 
 @dataclass(frozen=True)
 class Near:
-    """The absolute address that a near branch goes to.
+    """The target of a near branch, as an absolute address.
 
     >>> decode(64, 0x1000, bytes.fromhex("ebfe")).ops
     (Near(target=4096),)
@@ -153,7 +156,7 @@ class Near:
 
 @dataclass(frozen=True)
 class Far:
-    """A far pointer.
+    """A far pointer: a selector and an offset.
 
     >>> decode(32, 0, bytes.fromhex("ea 78563412 2300")).ops
     (Far(selector=35, offset=305419896),)
@@ -176,14 +179,14 @@ OPERANDS = (Register, Memory, Immediate, Near, Far)
 
 
 def signed(value: int, bits: int) -> int:
-    """The number that so many bits stand for by their sign."""
+    """The signed number of the low `bits` bits of a value."""
     value %= 1 << bits
     return value - (1 << bits) if value >> (bits - 1) else value
 
 
 @lru_cache(maxsize=None)
 def _register(reg_class: int, number: int) -> Optional[Register]:
-    """The register of a struct, None without one."""
+    """The register in a struct, None without one."""
     return Register(RegClass(reg_class), number) if reg_class else None
 
 
@@ -192,7 +195,7 @@ _OPERAND = struct.Struct("=QIH7B3x")
 
 @lru_cache(maxsize=8192)
 def operand_of(fields: bytes, asize: int) -> Optional[Operand]:
-    """The operand of a struct that the library filled, None where it is absent."""
+    """The operand in a struct that the library has filled, None if it is absent."""
     value, offset, selector, kind, reg_class, reg_number, index_class, index_number, scale, disp_bits = _OPERAND.unpack(fields)
     if kind == OperandKind.REGISTER:
         return _register(reg_class, reg_number)
@@ -225,14 +228,14 @@ def _registers() -> Dict[str, Register]:
     found = {}
     for reg_class in RegClass:
         for number in range(16):
-            # no room is what is said of a register; of a number without one it is another refusal
+            # for a register the refusal is that the buffer is too small; for a number without one it is another
             if _native.register_text(Style.INTEL, reg_class, number, None, 0) == Reason.NO_ROOM:
                 found[_name_of(Style.INTEL, reg_class, number)] = Register(reg_class, number)
     return found
 
 
 def registers() -> Dict[str, Register]:
-    """Every register by its name in the Intel style.
+    """Returns all registers by their names in the Intel style.
 
     >>> registers()["r8d"].number
     8
@@ -241,12 +244,12 @@ def registers() -> Dict[str, Register]:
 
 
 def register(name: str) -> Register:
-    """The register of a name in the Intel style, in lower case; ValueError where none has it.
+    """Returns the register of a name, in the Intel style and in lower case. Raises ValueError if no register has the name.
 
     >>> register("r8d")
     Register(reg_class=<RegClass.R32: 4>, number=8)
     """
     found = _registers().get(_checks.word("name", name))
     if found is None:
-        raise ValueError(f"no register has the name {name!r}")
+        raise ValueError(f"no register has the name {name!r}: names are in lower case, such as 'rax' and 'st0'")
     return found

@@ -1,4 +1,4 @@
-"""What is refused, in words."""
+"""Refusals: what the library reports, as exceptions with messages."""
 
 from __future__ import annotations
 
@@ -8,52 +8,56 @@ from typing import Dict, Optional, Tuple, Type, Union
 from ._numbers import Cause, Reason
 
 _REASONS = {
-    Reason.BAD_MODE: "the mode is not 16, 32 or 64",
-    Reason.BAD_SYNTAX: "the style is not Style.INTEL, Style.ATT or Style.MASM",
-    Reason.BAD_CODE: "the code is no row of the table",
-    Reason.BAD_INSTR: "it is no instruction: a field has a number that stands for nothing",
-    Reason.BAD_FORM: "its operands do not have the form of its row, or the code is no row",
-    Reason.NO_ROOM: "the room is too small",
-    Reason.INVALID: "no instruction begins with these bytes, and more bytes would not change that",
-    Reason.TOO_SHORT: "the bytes end before an instruction does",
+    Reason.BAD_MODE: "bits must be 16, 32 or 64",
+    Reason.BAD_SYNTAX: "syntax must be Style.INTEL, Style.ATT or Style.MASM",
+    Reason.BAD_CODE: "no row of the table has this code",
+    Reason.BAD_INSTR: "not an instruction: a field holds a number that means nothing",
+    Reason.BAD_FORM: "the operands do not match the row of the code, or no row has the code",
+    Reason.NO_ROOM: "not enough space: the block is shorter than the bytes, or the region has its maximum number of blocks",
+    Reason.INVALID: "no instruction begins with these bytes, whatever follows them",
+    Reason.TOO_SHORT: "the bytes end before the instruction does",
     Reason.NO_NAME: "no row has this name and number",
-    Reason.NO_MEMORY: "there is not enough memory",
-    Reason.TOO_LARGE: "there are too many bytes",
-    Reason.TOO_MANY: "there are too many instructions",
-    Reason.WRAPS: "the old or the new code passes the address space of the mode",
-    Reason.TOO_FAR: "an instruction cannot reach its target from its new place",
-    Reason.NULL: "NULL where it may not stand",
-    Reason.NO_TEXT: "no instruction that can be encoded there has this text",
-    Reason.NO_REGISTER: "there is no such register",
-    Reason.BAD_JUMP: "it is no form of a jump or a call, as Jump.NEAR",
-    Reason.BAD_START: "start is not Start.MOVED or Start.HOOKED",
-    Reason.SMALL: "the function has too few bytes for the jump",
-    Reason.ENDS: "the function ends where it would be written over, and other code stands there",
-    Reason.ENTERED: "control may go into what would be written over",
+    Reason.NO_MEMORY: "out of memory",
+    Reason.TOO_LARGE: "more bytes of code than one call takes: MAX_CODE, or for flow MAX_FLOW",
+    Reason.TOO_MANY: "more than 65536 instructions",
+    Reason.WRAPS: "the old or the new code extends past the address space of the mode",
+    Reason.TOO_FAR: "an instruction cannot reach its target from its new address",
+    Reason.NULL: "a pointer is NULL",
+    Reason.NO_TEXT: "no instruction that can be encoded at this address has exactly this Intel text",
+    Reason.NO_REGISTER: "no register has this class and number",
+    Reason.BAD_JUMP: "form must be a member of Jump, such as Jump.NEAR",
+    Reason.BAD_START: "start must be Start.MOVED or Start.HOOKED",
+    Reason.SMALL: "the function is shorter than the jump",
+    Reason.ENDS: "control ends within the bytes to be overwritten, and other code follows",
+    Reason.ENTERED: "control may enter the bytes to be overwritten",
     Reason.BAD_BLOCK: "a block is not inside the bytes",
-    Reason.BAD_REGION: "the numbers are no region: its size is 16 to 1048576 and a multiple of 16, and its live blocks stand inside it",
-    Reason.EMPTY: "no place for 0 bytes",
-    Reason.FULL: "no gap of the region is long enough",
-    Reason.NOT_LIVE: "no live block starts there",
+    Reason.BAD_REGION: "not a region: its size must be a multiple of 16 from 16 to 1048576, for 1 to 65536 blocks, and it must end in the address space",
+    Reason.EMPTY: "a block must have at least 1 byte",
+    Reason.FULL: "no gap of the region is long enough: release a block or ask for fewer bytes",
+    Reason.NOT_LIVE: "no live block starts at this address",
 }
 _CAUSES = {
-    Cause.ROW: "the code is no row of the table that exists in the mode",
-    Cause.KIND: "it is of a kind that cannot stand there",
-    Cause.REGISTER: "it is a register that cannot stand there",
-    Cause.MEMORY: "base, index and scale are no address of the mode",
-    Cause.DISPLACEMENT: "the address has no such displacement",
-    Cause.IMMEDIATE: "it is an immediate that its size does not hold",
-    Cause.TARGET: "its target is out of reach",
+    Cause.ROW: "no row of the table that exists in the mode has the code",
+    Cause.KIND: "the row takes no operand of this kind here",
+    Cause.REGISTER: "this register cannot be encoded here",
+    Cause.MEMORY: "base, index and scale are not an address of the mode",
+    Cause.DISPLACEMENT: "the address has no displacement of this width or value",
+    Cause.IMMEDIATE: "the immediate does not fit its size",
+    Cause.TARGET: "the target is out of reach",
     Cause.PREFIX: "LOCK or a repeat prefix is not allowed",
-    Cause.ADDRESS_SIZE: "the address size is absent, needless, or not that of the operand",
-    Cause.LENGTH: "it would take more than 15 bytes",
+    Cause.ADDRESS_SIZE: "the address size is missing, superfluous, or not that of the operand",
+    Cause.LENGTH: "the encoding would have more than 15 bytes",
 }
 _OF_AN_OPERAND = (Cause.KIND, Cause.REGISTER, Cause.MEMORY, Cause.DISPLACEMENT, Cause.IMMEDIATE, Cause.TARGET)
 
 
 @dataclass(frozen=True)
 class MoveReport:
-    """The numbers of a moving; feddurzai.h says when each is set.
+    """The report of `move` and `move_outside`.
+
+    `bytes` is the size of the moved code with its slots, `code_bytes` without them, and `slots_at` the offset of the first slot. `count` is
+    the number of instructions. After a refusal `at` is the offset of the byte that was not decoded, or the number of the instruction that
+    does not reach; `address` is its target, or the end that is past the address space. Fields that do not apply are 0.
 
     >>> move(64, 0x1000, bytes.fromhex("7410"), 0x2000).report.bytes
     6
@@ -69,7 +73,12 @@ class MoveReport:
 
 @dataclass(frozen=True)
 class DetourReport:
-    """The numbers of a detour; feddurzai.h says when each is set.
+    """The report of `detour`.
+
+    `taken` is the size of the patch and `bytes` that of the trampoline; `jump_back`, `slots_at` and `relay_at` are offsets in the trampoline,
+    `bytes` for an absent part; `form` is a `DetourForm`. After a refusal `at` and `target` say where: the offset of a byte, the sizes of the
+    function and of the jump (SMALL), the offsets that control comes from and goes to (ENTERED), or the number of an instruction and its
+    target (TOO_FAR). Fields that do not apply are 0.
 
     >>> detour(64, 0x1000, bytes.fromhex("4883ec18 31c0 c3"), 0x2000, 0x3000).report.taken
     6
@@ -87,7 +96,7 @@ class DetourReport:
 
 @dataclass(frozen=True)
 class BlocksReport:
-    """The numbers of a moving of blocks; feddurzai.h says when each is set.
+    """The report of `move_blocks`: as of `move`, with the number of the block that fails; `at` counts within that block.
 
     >>> try:
     ...     move_blocks(64, [Block(0, b"\\x90", 0x100), Block(0x10, b"\\x90\\x06", 0x200)])
@@ -105,7 +114,8 @@ class BlocksReport:
 
 @dataclass(frozen=True)
 class StepReport:
-    """The numbers of the code of a step; feddurzai.h says when each is set.
+    """The report of `step`: the size of the code, the offset of its jump back, and the length of the instruction. After a refusal `address`
+    is the target that is out of reach, or the end that is past the address space.
 
     >>> try:
     ...     step(16, 0x1000, b"\\x90", 0xFFFE)
@@ -124,17 +134,17 @@ Report = Union[MoveReport, DetourReport, BlocksReport, StepReport]
 
 
 class Refusal(Exception):
-    """What the library refuses: its `number`, below zero, which is the `reason` or has a `cause`.
+    """The library refused a call. Its message says what went wrong and where.
 
-    `reason` is a `Reason`. Where `encode` finds no encoding it is `Reason.NO_ENCODING`, `cause` is a `Cause`, and `operand` the
-    number of the operand that has it, from 0; both are None else. What `move`, `step` and `detour` refuse has a
-    `report`.
+    `reason` is a `Reason`. If an instruction has no encoding, it is `Reason.NO_ENCODING`, `cause` is a `Cause`, and `operand` the number of
+    the operand that fails, from 0, or None if the cause concerns the whole instruction. Else both are None. A refusal by `move`,
+    `move_outside`, `move_blocks`, `step` or `detour` has a `report`, else None. `number` is the status of the library, below 0.
 
     >>> try:
     ...     Instr(code_of("inc", "FE /0"), Immediate(1)).encode(64, 0)
     ... except Refusal as refusal:
     ...     print(refusal, refusal.cause.name, refusal.operand, sep="; ")
-    no encoding: operand 0: it is of a kind that cannot stand there; KIND; 0
+    no encoding: operand 0: the row takes no operand of this kind here; KIND; 0
     """
 
     number: int
@@ -165,24 +175,24 @@ class Refusal(Exception):
 
 
 class InvalidCode(Refusal):
-    """The bytes begin with no instruction, and more bytes would not change that.
+    """No instruction begins with the bytes, whatever follows them.
 
     >>> try:
     ...     decode(64, 0, b"\\x06")
     ... except InvalidCode as refusal:
     ...     print(refusal)
-    no instruction begins with these bytes, and more bytes would not change that
+    no instruction begins with these bytes, whatever follows them
     """
 
 
 class TooShort(Refusal):
-    """The bytes end before an instruction does.
+    """The bytes end before the instruction does.
 
     >>> try:
     ...     decode(64, 0, b"\\x48")
     ... except TooShort as refusal:
     ...     print(refusal)
-    the bytes end before an instruction does
+    the bytes end before the instruction does
     """
 
 
@@ -190,7 +200,7 @@ _CLASSES: Dict[int, Type[Refusal]] = {Reason.INVALID: InvalidCode, Reason.TOO_SH
 
 
 def _where(reason: Reason, report: Optional[Report]) -> str:
-    """What a report says of a refusal."""
+    """Where the refusal occurred, by its report."""
     if report is None:
         return ""
     if isinstance(report, BlocksReport):
@@ -201,24 +211,24 @@ def _where(reason: Reason, report: Optional[Report]) -> str:
     if reason in _CLASSES or reason is Reason.ENDS:
         return f": at offset {report.at}"
     if reason is Reason.TOO_MANY and isinstance(report, MoveReport):
-        return f": {report.count}"
+        return f": there are {report.count}"
     if reason is Reason.WRAPS:
         return f": it ends at {address:#x}"
     if reason is Reason.TOO_FAR:
         return f": instruction {report.at}, target {address:#x}"
     if reason is Reason.SMALL:
-        return f": it has {report.at}, the jump {address}"
+        return f": the function has {report.at} bytes, the jump {address}"
     if reason is Reason.ENTERED:
         return f": from offset {report.at}, to offset {address}"
     return ""
 
 
 def _where_of_blocks(reason: Reason, report: BlocksReport) -> str:
-    """What the report of a moving of blocks says of a refusal."""
+    """Where the refusal occurred, by the report of `move_blocks`."""
     if reason in _CLASSES:
         return f": at offset {report.at} of block {report.block}"
     if reason is Reason.TOO_MANY:
-        return f": {report.count}"
+        return f": there are {report.count}"
     if reason is Reason.WRAPS:
         return f": a block ends at {report.address:#x}"
     if reason is Reason.TOO_FAR:
@@ -227,7 +237,7 @@ def _where_of_blocks(reason: Reason, report: BlocksReport) -> str:
 
 
 def _where_of_step(reason: Reason, report: StepReport) -> str:
-    """What the report of a step says of a refusal."""
+    """Where the refusal occurred, by the report of `step`."""
     if reason is Reason.WRAPS:
         return f": it ends at {report.address:#x}"
     if reason is Reason.TOO_FAR:
@@ -236,12 +246,12 @@ def _where_of_step(reason: Reason, report: StepReport) -> str:
 
 
 def refusal_of(number: int, report: Optional[Report] = None) -> Refusal:
-    """The exception of a number below zero."""
+    """The exception for a status below 0."""
     return _CLASSES.get(number, Refusal)(number, report)
 
 
 def taken(number: int) -> int:
-    """A number that is no refusal."""
+    """Returns a status of 0 or more, and raises the refusal of any other."""
     if number < 0:
         raise refusal_of(number)
     return number

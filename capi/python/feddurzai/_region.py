@@ -10,7 +10,7 @@ from ._refusal import refusal_of, taken
 
 
 class Live(NamedTuple):
-    """A live block of a region: its address, and how many bytes it takes.
+    """A live block of a region: its address, and its size in bytes.
 
     >>> region = Region(0x10000, 64)
     >>> region.reserve(17), region.live
@@ -26,11 +26,11 @@ _LIVE = struct.Struct("=2Q")
 
 
 class Region:
-    """A fixed range of addresses in which blocks of code find a place, with the bytes of the range: `image`, which is CC where no block has
-    any.
+    """A fixed range of addresses from which blocks of code are allocated, first fit. `image` has the bytes of the range, CC (INT3) outside the
+    code of live blocks.
 
-    `size` is 16 to 1048576 and a multiple of 16, `most`, how many blocks may be live, 1 to 65536, and the range ends at 2**64 or before: else
-    it is refused, BAD_REGION. A region is one object's: it is not to be changed from two threads at once.
+    `base` is the first address. `size` is a multiple of 16 from 16 to 1048576. `most` is the largest number of live blocks, 1 to 65536. The
+    range ends at 2**64 or before. Otherwise the constructor raises Refusal with BAD_REGION. Do not change a region from two threads at once.
 
     >>> region = Region(0x10000, 64)
     >>> place = region.reserve(2)
@@ -66,7 +66,7 @@ class Region:
 
     @property
     def image(self) -> bytes:
-        """The bytes of the range.
+        """A copy of the bytes of the range.
 
         >>> Region(0x10000, 64).image == 64 * b"\\xcc"
         True
@@ -74,24 +74,24 @@ class Region:
         return bytes(self._image.raw)
 
     def reserve(self, len: int) -> int:
-        """The address of a new block of so many bytes, rounded up to a multiple of 16: the front of the first gap that is so long.
+        """Allocates a block of `len` bytes, rounded up to a multiple of 16, in the lowest gap that is long enough. Returns its address.
 
-        Refused: EMPTY, NO_ROOM (as many blocks are live as may be), FULL.
+        Raises Refusal with EMPTY (`len` is 0), NO_ROOM (`most` blocks are live) or FULL.
 
         >>> try:
         ...     Region(0x10000, 64).reserve(65)
         ... except Refusal as refusal:
         ...     print(refusal)
-        no gap of the region is long enough
+        no gap of the region is long enough: release a block or ask for fewer bytes
         """
         place = _native.room_of(8)()
         taken(_native.region_reserve(self._region, self._live, self._most, _checks.number("len", len), place))
         return int.from_bytes(place.raw, "little")
 
     def fill(self, place: int, code: Buffer) -> None:
-        """Writes code at the front of the live block that starts at `place`, and CC over its rest.
+        """Writes code to the front of the live block that starts at `place`, and CC to the rest of the block.
 
-        Refused: NOT_LIVE, NO_ROOM (the block has fewer bytes).
+        Raises Refusal with NOT_LIVE or NO_ROOM (the block has fewer bytes).
 
         >>> region = Region(0x10000, 64)
         >>> region.fill(region.reserve(3), b"\\xeb\\xfe")
@@ -103,7 +103,7 @@ class Region:
         taken(_native.region_fill(self._region, self._live, self._most, place, code, len(code), self._image, self.size))
 
     def release(self, place: int) -> None:
-        """Ends the live block that starts at `place`, and sets its bytes to CC. Refused: NOT_LIVE.
+        """Frees the live block that starts at `place`, and sets its bytes to CC. Raises Refusal with NOT_LIVE.
 
         >>> region = Region(0x10000, 64)
         >>> region.release(region.reserve(1))

@@ -1,4 +1,4 @@
-"""Stepping an instruction elsewhere."""
+"""Displaced single stepping."""
 
 import struct
 from typing import Dict, List, NamedTuple
@@ -15,7 +15,7 @@ _CodeRoom = _native.room_of(_native.MAX_STEP)
 
 
 class Step(NamedTuple):
-    """The code by which an instruction is stepped elsewhere: its bytes, the offset of its jump back, and how many bytes the instruction had.
+    """The code that runs an instruction at another address: its bytes, the offset of its jump back, and the length of the instruction.
 
     >>> step(64, 0x1000, b"\\x50", 0x2000)
     Step(code=b'P\\xe9\\xfb\\xef\\xff\\xff', back_at=1, len=1)
@@ -27,15 +27,18 @@ class Step(NamedTuple):
 
 
 def step(bits: int, old_ip: int, code: Buffer, place: int, at: int = 0) -> Step:
-    """The code by which the instruction that stands `at` an offset of some bytes, whose first has the address `old_ip`, is stepped at the address
-    `place`: the instruction there, and a jump back to the address behind it. `code` has the program's own bytes, without a breakpoint.
+    """Makes the code with which a debugger runs one instruction at the address `place` while its breakpoint stays: the instruction, moved
+    there, and a jump back to the address after it.
 
-    Every target stays, also one that is the instruction itself. Control that is at `place + back_at` has done the instruction, and is to be
-    told as the address behind it; before that it is still at the instruction. A call pushes the address behind it in the code, which has to
-    stand until the procedure comes back.
+    The instruction is at offset `at` of `code`, whose first byte has the address `old_ip`. `code` has the program's own bytes, without the
+    breakpoint. Every target stays, even if it is the instruction itself.
 
-    Raises InvalidCode and TooShort as `decode` does. Refused, with a report: BAD_MODE, WRAPS (the code passes the address space), TOO_FAR (the
-    instruction does not reach its target from the place), NO_MEMORY.
+    At `place + back_at` the instruction is complete: report the address after it. At `place` it has not completed: report its address. At an
+    address between the two, step on. There, LOOP, LOOPE and LOOPNE have already decremented their counter. A CALL pushes the address after it
+    in the code, so keep the code until the procedure returns. SYSCALL pushes nothing, but leaves that address in RCX.
+
+    Raises InvalidCode and TooShort as `decode` does, and Refusal with a report and BAD_MODE, WRAPS (the code extends past the address space),
+    TOO_FAR (the instruction cannot reach its target from `place`) or NO_MEMORY.
 
     >>> made = step(64, 0x1000, bytes.fromhex("e8fb0f0000"), 0x1800)
     >>> made.code.hex(), made.back_at
@@ -52,8 +55,8 @@ def step(bits: int, old_ip: int, code: Buffer, place: int, at: int = 0) -> Step:
 
 
 def step_len(bits: int, old_ip: int, code: Buffer, base: int, at: int = 0) -> int:
-    """How many bytes `step` gives at most for this instruction, at whatever place that is a multiple of 16 bytes behind `base`, as those of a
-    `Region` with that base are: 1 to MAX_STEP. Raises InvalidCode and TooShort as `decode` does, and refuses BAD_MODE.
+    """Returns an upper bound of the bytes that `step` returns for this instruction at any place that is a multiple of 16 bytes after `base`, as
+    the places of a `Region` with that base are: 1 to MAX_STEP. Raises InvalidCode, TooShort, and Refusal with BAD_MODE, as `decode` does.
 
     >>> step_len(64, 0x1000, bytes.fromhex("e8fb0f0000"), 0x1800)
     32
@@ -64,7 +67,7 @@ def step_len(bits: int, old_ip: int, code: Buffer, base: int, at: int = 0) -> in
 
 
 class StepSlot(NamedTuple):
-    """A live slot: the address of its code, the address of its instruction, and how that is stepped there.
+    """A live slot: the address of its code, the address of its instruction, and the code.
 
     >>> slots = StepSlots(64, 0x10000, 64)
     >>> slots.step(0x1000, b"\\x50"), slots.live[0].old_ip
@@ -77,11 +80,11 @@ class StepSlot(NamedTuple):
 
 
 class StepSlots:
-    """Slots for displaced single stepping, in a range of addresses within reach of the program: in each an instruction of the program and the jump
-    back to what followed it. `image` has the bytes of the range, which are CC where no slot has any.
+    """Slots for displaced single stepping, in a range of addresses within reach of the program. Each slot has an instruction of the program and
+    the jump back to the address after it. `image` has the bytes of the range, CC outside the slots.
 
-    `bits` is 16, 32 or 64, else BAD_MODE is refused; the rest is as for a `Region`, and the range ends inside the address space of the mode,
-    else BAD_REGION. Slots are one object's: they are not to be changed from two threads at once.
+    `bits` is the mode. `base`, `size` and `most` are as for a `Region`, and the range must end inside the address space of the mode. Otherwise
+    the constructor raises Refusal with BAD_MODE or BAD_REGION. Do not change the slots from two threads at once.
 
     >>> slots = StepSlots(64, 0x10000, 64)
     >>> place = slots.step(0x10800, bytes.fromhex("ebfe"))
@@ -113,7 +116,7 @@ class StepSlots:
 
     @property
     def image(self) -> bytes:
-        """The bytes of the range.
+        """A copy of the bytes of the range.
 
         >>> StepSlots(64, 0x10000, 64).image == 64 * b"\\xcc"
         True
@@ -121,11 +124,10 @@ class StepSlots:
         return self._region.image
 
     def step(self, old_ip: int, code: Buffer, at: int = 0) -> int:
-        """Gives the instruction that stands `at` an offset of some bytes, whose first has the address `old_ip`, a slot, and answers the address
-        of its code.
+        """Makes a slot for the instruction at offset `at` of `code`, whose first byte has the address `old_ip`. Returns the address of its code.
 
-        Raises InvalidCode and TooShort as `decode` does. Refused, with nothing changed: NO_ROOM (as many slots are live as may be), FULL (no
-        gap has as many bytes as the code may take), TOO_FAR, NO_MEMORY.
+        Raises InvalidCode and TooShort as `decode` does, and Refusal with NO_ROOM (`most` slots are live), FULL (no gap has as many bytes as the
+        code may take), TOO_FAR or NO_MEMORY. Then nothing is changed.
 
         >>> slots = StepSlots(64, 0x10000, 64)
         >>> slots.step(0x1000, b"\\x50"), slots.live[0].step.code.hex()
@@ -143,7 +145,7 @@ class StepSlots:
         return place
 
     def finish(self, place: int) -> None:
-        """Ends the live slot whose code starts at `place`, and sets its bytes to CC. Refused: NOT_LIVE.
+        """Frees the live slot whose code starts at `place`, and sets its bytes to CC. Raises Refusal with NOT_LIVE.
 
         >>> slots = StepSlots(64, 0x10000, 64)
         >>> slots.finish(slots.step(0x1000, b"\\x50"))

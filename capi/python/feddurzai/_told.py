@@ -1,4 +1,4 @@
-"""What an instruction is told to be: its text, its bytes, what it does."""
+"""The text, the bytes and the properties of an instruction in a struct."""
 
 import struct
 from functools import lru_cache
@@ -12,7 +12,7 @@ from ._refusal import refusal_of, taken
 # feddurzai_about: target, ip_address, has_target, has_ip_address, flow, memory_size; then access[4], use_count, uses[8]
 _ABOUT = struct.Struct("=QQ4B")
 _ACCESS_AT, _COUNT_AT, _USES_AT, _ABOUT_SIZE = 20, 24, 25, 56
-# where the kind of each operand stands in a feddurzai_instr
+# the offsets of the operand kinds in a feddurzai_instr
 _KINDS_AT = (14, 38, 62, 86)
 _AboutRoom = _native.room_of(_ABOUT_SIZE)
 _BytesRoom = _native.room_of(_native.MAX_LEN)
@@ -20,7 +20,7 @@ _NameRoom = _native.room_of(_native.NAME_ROOM)
 
 
 class Use(NamedTuple):
-    """A register that an instruction names, and what is done to it.
+    """A register that an instruction names, and how it is accessed.
 
     >>> decode(64, 0, bytes.fromhex("4889c3")).info().uses[0]
     Use(register=Register(reg_class=<RegClass.R64: 5>, number=3), access=<Access.WRITE: 2>)
@@ -31,11 +31,11 @@ class Use(NamedTuple):
 
 
 class About(NamedTuple):
-    """What an instruction does.
+    """What `info` reports of an instruction.
 
-    `target` is the address that a near branch goes to, `ip_address` that of a memory operand at RIP or EIP, each None without one.
-    `memory_size` counts the bytes of the memory operand: 0 without one, or where it has no size. `access` has an entry for each operand.
-    `uses` are the registers that it names, operand by operand; those of an address as read.
+    `target` is the target of a near branch, and `ip_address` the address of a memory operand at RIP or EIP; each is None if there is none.
+    `memory_size` is the size of the memory operand in bytes, 0 without one or if it has no size. `access` has an entry for each operand. `uses`
+    has the registers that the operands name, in order; base and index of an address count as read.
 
     >>> about = decode(64, 0x1000, bytes.fromhex("7410")).info()
     >>> about.flow.name, hex(about.target), about.ip_address
@@ -66,7 +66,7 @@ def _uses_of(numbers: bytes) -> Tuple[Use, ...]:
 
 
 def text_of(bits: int, instr: bytes, syntax: int) -> str:
-    """The text of the instruction of a struct, in a mode that was looked at."""
+    """The text of the instruction in a struct, in a mode that has been checked."""
     if type(syntax) is not Style:
         syntax = _checks.number("syntax", syntax, _checks.U32)
     room = _native.TextRoom()
@@ -77,7 +77,7 @@ def text_of(bits: int, instr: bytes, syntax: int) -> str:
 
 
 def encode_of(bits: int, ip: int, instr: bytes) -> bytes:
-    """The bytes of the instruction of a struct."""
+    """The bytes of the instruction in a struct."""
     room = _BytesRoom()
     bits, ip = _checks.number("bits", bits, _checks.U32), _checks.number("ip", ip)
     length = taken(_native.encode(bits, ip, instr, room, _native.MAX_LEN))
@@ -85,7 +85,7 @@ def encode_of(bits: int, ip: int, instr: bytes) -> bytes:
 
 
 def info_of(instr: bytes) -> About:
-    """What the instruction of a struct does."""
+    """What the instruction in a struct does."""
     room = _AboutRoom()
     taken(_native.info(instr, room))
     about = room.raw

@@ -136,6 +136,7 @@ att_part-le bits row name instr n =
 whole_is_short : (words name p3 p2 p1 p0 : List ℕ) (w3 w2 w1 w0 : ℕ) → length words ≤ 22 → length name ≤ 21 → length p3 ≤ 22 + 24 * w3 → length p2 ≤ 22 + 24 * w2 → length p1 ≤ 22 + 24 * w1 → length p0 ≤ 22 + 24 * w0 → w0 + (w1 + (w2 + w3)) ≤ 1 → length (words ++ (name ++ (p3 ++ (p2 ++ (p1 ++ p0))))) ≤ 160
 whole_is_short words name p3 p2 p1 p0 w3 w2 w1 w0 hw hn h3 h2 h1 h0 one = simp length-append (omega arith)
 
+-- an AT&T text has at most 160 bytes
 pub text_of-le : (bits : Bits) (row : Row) (name : List ℕ) (instr : Instr) → length name ≤ 20 → IsTrue (has_one_long instr) → length (text_of bits row name instr) ≤ 160
 unfolding text_of has_one_long
 text_of-le bits row name instr short one =

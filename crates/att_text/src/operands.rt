@@ -168,7 +168,7 @@ fn append_star<const N: usize>(out: &mut ArrayVec<u8, N>, row: &Row, name: &[u8]
     }
 }
 
-/// Whether no operand stands behind operand `n`.
+/// Whether no operand follows operand `n`.
 #[inline]
 #[tactic(auto, unfolding(crate::specs::Operands::is_last))]
 fn is_last(instr: &Instr, n: usize) -> bool

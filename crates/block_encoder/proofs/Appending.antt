@@ -20,11 +20,13 @@ pub written_at : ((b : Bits) (x : ℕ) → modulo_width b (modulo_width b x) ≡
     → answer_bytes r ≡ encoding bits ip i → answer_bytes r ≡ encoding bits at i
 written_at twice bits at ip i r e w = w ∙ (ap (λ (n : ℕ). encoding bits n i) e ∙ encoding_wraps twice bits at i)
 
+-- an encoded piece is put behind the bytes
 pub piece_ok : (e : Result (List ℕ) NoSpelling) (piece old new : List ℕ) (at n : ℕ) → Ok piece ≡ e → new ≡ old ++ piece
     → n ≡ length piece → IsPieceAppended e at old new (Some (at + n))
 piece_ok e piece old new at n h w l =
     subst (λ x. IsPieceAppended x at old new (Some (at + n))) h (w, ap (λ (m : ℕ). Some (at + m)) l)
 
+-- a piece without an encoding leaves them
 pub piece_err : (e : Result (List ℕ) NoSpelling) (why : NoSpelling) (old new : List ℕ) (at : ℕ) → Err why ≡ e
     → IsPieceAppended e at old new None
 piece_err e why old new at h = subst (λ x. IsPieceAppended x at old new None) h refl

@@ -35,6 +35,7 @@ choice_by-length bits i (Some b) f lt = mapped (branch_forms bits b.action b.is_
     mapped (form ∷ forms) zero lt = refl
     mapped (form ∷ forms) (suc n) lt = mapped forms n (omega arith)
 
+-- the length of a choice is that of its form
 pub choice-length : (bits : Bits) (i : Instr) (f : ℕ) → f < length (choices_of bits i) → (get_or (choices_of bits i) f no_choice).len ≡ form_length bits i (get_or (choices_of bits i) f no_choice).form
 unfolding choices_of
 choice-length bits i f lt = choice_by-length bits i (branch_of i) f lt
@@ -74,6 +75,7 @@ moved_by : (bits : Bits) (i : Instr) (o : Option RelativeBranch) (b : RelativeBr
 moved_by bits i None b f e lt = cc
 moved_by bits i (Some c) b f e lt = moved_choice bits i c (branch_forms bits c.action c.is_short) f (forms_moved bits c.action c.is_short) lt
 
+-- a choice other than the own form of a branch has the form of its image
 pub moved-form : (bits : Bits) (i : Instr) (b : RelativeBranch) (f : ℕ) → branch_of i ≡ Some b → f < length (choices_of bits i) → is_own (get_or (choices_of bits i) f no_choice).form ≡ false
 unfolding choices_of
 moved-form bits i b f e lt = moved_by bits i (branch_of i) b f e lt

@@ -51,6 +51,7 @@ far_below p layout first bound (suc n) h j lt =
           | inr ge ↦ omega (arith, get_or_push xs x 0 i (omega (arith, length-append xs (x ∷ []))), new)
         ]
 
+-- the slots of earlier blocks are below those of later ones
 pub slots_below : (p : BlockPlan) (layout : List ℕ) (b bound : ℕ)
     → ((i : ℕ) → i < (span_at p.spans b).count → goal_address p layout (first_of_block p.spans b + i) < bound)
     → (j : ℕ) → j < length (slots_of p layout b) → get_or (slots_of p layout b) j 0 < bound

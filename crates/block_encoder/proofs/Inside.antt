@@ -27,6 +27,7 @@ images_before : (p : BlockPlan) (layout : List ℕ) (b : ℕ) → images_end p l
 unfolding new_end
 images_before p layout b = behind_images (length (slots_of p layout b) == 0) (images_end p layout b) (length (slots_of p layout b))
 
+-- an address space has at most 2 to the 64 addresses
 pub width-most : (bits : Bits) → 2 ^ width bits ≤ 2 ^ 64
 width-most B16 = omega arith
 width-most B32 = omega arith

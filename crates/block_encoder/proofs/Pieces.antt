@@ -25,6 +25,7 @@ four_of_meaning : (bits : Bits) (ip : ℕ) (code : Code) (row : Row) (s : Spelli
 unfolding meaning instr_of
 four_of_meaning bits ip code row s = refl
 
+-- a spelled instruction has four operands
 pub spelled-four : (bits : Bits) (ip : ℕ) (bytes : List ℕ) (i : Instr) → Spells table bits ip bytes i → length i.ops ≡ 4
 spelled-four bits ip bytes i (short, (row, at, (s, e))) =
     subst (λ (x : Instr). length x.ops ≡ 4) e.means (four_of_meaning bits ip i.code row s)

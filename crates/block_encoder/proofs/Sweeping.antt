@@ -22,6 +22,7 @@ abbrev pub HaveFour : List Instr → Type 0
 HaveFour [] = Unit {0}
 HaveFour (i ∷ is) = (length i.ops ≡ 4) × HaveFour is
 
+-- two lists of instructions with four operands joined
 pub have_four-append : (is js : List Instr) → HaveFour is → HaveFour js → HaveFour (is ++ js)
 have_four-append [] js a b = b
 have_four-append (i ∷ is) js (a, more) b = (a, have_four-append is js more b)
@@ -54,6 +55,7 @@ pub record Parted (bits : Bits) (at : ℕ) (i : Instr) (is : List Instr) (all : 
   pub others : bytes_from bits (at + length bytes) is ≡ Some rest
   pub all_are : all ≡ bytes ++ rest
 
+-- the bytes of some instructions are those of the first and of the others
 pub parted : (bits : Bits) (at : ℕ) (i : Instr) (is : List Instr) (all : List ℕ) → bytes_from bits at (i ∷ is) ≡ Some all → Parted bits at i is all
 unfolding bytes_from
 parted bits at i is all h = by_encoding (encoding bits at i) refl h
@@ -103,6 +105,7 @@ images-joined bits image bytes at first (suc n) h =
     spellings-append bits (at first) (image first) (flat_map image (range_with_len (first + 1) n)) (bytes first) (flat_map bytes (range_with_len (first + 1) n)) here.0
     (subst (λ (m : ℕ). bytes_from bits m (flat_map image (range_with_len (first + 1) n)) ≡ Some (flat_map bytes (range_with_len (first + 1) n))) here.1 next)
 
+-- the instructions of images have four operands
 pub images-have_four : (image : ℕ → List Instr) (first n : ℕ) → ((k : ℕ) → first ≤ k → k < first + n → HaveFour (image k)) → HaveFour (flat_map image (range_with_len first n))
 images-have_four image first zero h = tt
 images-have_four image first (suc n) h =

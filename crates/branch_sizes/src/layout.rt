@@ -81,7 +81,7 @@ pub(crate) fn image_len(item: &Branch, f: u8) -> u8
 }
 
 /// The place of each item in a layout, which has the number of each item's choice: the address of its image, which may lie behind the end of the
-/// address space. The only refusal is want of memory.
+/// address space. The only refusal is lack of memory.
 pub fn places(
     alloc: Global,
     spans: &[BlockSpan],
@@ -132,7 +132,7 @@ pub enum LayoutError {
 }
 
 impl From<AllocError> for LayoutError {
-    /// The one refusal is want of memory.
+    /// The only refusal is lack of memory.
     fn from(_e: AllocError) -> LayoutError {
         LayoutError::Memory
     }

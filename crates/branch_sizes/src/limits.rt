@@ -38,7 +38,7 @@ struct Rooms {
     goal: i32,
 }
 
-/// The rooms of a branch that reaches wherever it and its goal stand.
+/// The distances left to a branch that reaches wherever it and its goal stand.
 fn without_limit() -> Rooms {
     Rooms {
         own: UNLIMITED,
@@ -46,7 +46,7 @@ fn without_limit() -> Rooms {
     }
 }
 
-/// The rooms of a choice, where place and goal move apart from each other. They stand at `place` and `goal` in the
+/// The distances left to a choice, where place and goal move apart from each other. They are stored at `place` and `goal` in the
 /// layout of first choices.
 fn rooms_apart(choice: &Choice, place: u128, goal: u128) -> Rooms
     requires fit { IsTrue (is_fit_reach choice.now.reach) }
@@ -80,7 +80,7 @@ fn is_signed(reach: Reach) -> bool {
     matches!(reach, Reach::Signed8 | Reach::Signed32)
 }
 
-/// The rooms of item `k` under its choice.
+/// The distances left to item `k` under its choice.
 fn rooms_of(tables: &Tables, layout: &[u8], k: usize) -> Rooms
     requires layout { IsLayout (plan_in tables.now) layout.now }
     requires item { k < length tables.now.items.now }

@@ -15,6 +15,7 @@ one_more : (call made : ℕ) → (call == made + 1) ≡ true →
     (if nat_lt 0 call && nat_le call made then 1 else 0) < (if nat_lt 0 call && nat_le call (made + 1) then 1 else 0)
 one_more call made h = grind (arith, nat_tests)
 
+-- the number of listed calls so far never falls
 pub listed-le : (calls : List ℕ) (made : ℕ) → listed_so_far calls made ≤ listed_so_far calls (made + 1)
 unfolding listed_so_far
 listed-le [] made = omega arith

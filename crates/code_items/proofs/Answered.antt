@@ -140,10 +140,12 @@ are_beside bits items spans m h = record {
 
 -- ---- by what moving answered
 
+-- an option that has no value is None
 pub none_told : (o : Option ℕ) → ((x : ℕ) → o ≡ Some x → ⊥) → o ≡ None
 none_told None h = refl
 none_told (Some x) h = absurd (h x refl)
 
+-- the refusal of a move is the one that is returned
 pub refusal_is : (bits : Bits) (items : List Placed) (spans : List BlockSpan) (answer : Result MovedLists MoveError) (why told : MoveError) →
     IsAnswer bits items spans answer → answer ≡ Err why → why ≡ told → IsRefused bits items spans told
 refusal_is bits items spans answer why told h e is =

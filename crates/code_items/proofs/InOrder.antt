@@ -34,6 +34,7 @@ in_order blocks spans items chain (suc j) lt =
     ((item_at items (suc j)).ip == old_end (item_at items (suc j - 1)))
     (eq-eqb _ _ (chain j lt ∙ ap (λ (i : ℕ). old_end (item_at items i)) (sym before)))
 
+-- instructions that were read are in order
 pub no_disorder : BlockFacts → FirstFacts → (bits : Bits) (ip : ℕ) (bytes : List ℕ) (items : List Placed) (ip' : ℕ) (rest : List ℕ) →
     ReadsUpTo bits ip bytes items ip' rest → (new : ℕ) → first_disorder (one_span items new) items ≡ None
 unfolding first_disorder

@@ -23,6 +23,7 @@ WrapsOnce = (bits : Bits) (x : ℕ) → modulo_width bits (modulo_width bits x) 
 
 -- ---- one more instruction
 
+-- a further instruction extends what was read
 pub one_more : (bits : Bits) (ip : ℕ) (bytes : List ℕ) (items : List Placed) (ip' : ℕ) (rest : List ℕ) (p : Placed) →
     ReadsUpTo bits ip bytes items ip' rest → StandsFirst bits ip' rest p → ReadsUpTo bits ip bytes (items ++ p ∷ []) (ip' + p.len) (drop p.len rest)
 one_more bits ip bytes [] ip' rest p h first =
@@ -39,6 +40,7 @@ pub record ReadSoFar (bits : Bits) (base : ℕ) (bytes : List ℕ) (at : ℕ) (k
   pub kept_are : kept ≡ map (wrapped_item bits) items
   pub formed : IsTrue (are_formed kept)
 
+-- at the start nothing is read
 pub so_far-start : (bits : Bits) (base : ℕ) (bytes : List ℕ) (kept : List Placed) → kept ≡ [] → ReadSoFar bits base bytes 0 kept
 so_far-start bits base bytes kept none =
     let F : List Placed → Type 0 = λ xs. IsTrue (are_formed xs) in
@@ -50,6 +52,7 @@ so_far-start bits base bytes kept none =
       formed = subst F (sym none) refl;
     }
 
+-- an instruction that is read is kept
 pub so_far-step : WrapsOnce → (bits : Bits) (base : ℕ) (bytes : List ℕ) (at address : ℕ) (kept kept' : List Placed) (d : Decoded) (p : Placed) →
     ReadSoFar bits base bytes at kept → address ≡ modulo_width bits (base + at) → kept' ≡ kept ++ p ∷ [] →
     p ≡ record { ip = address; len = d.len; instr = d.instr } → 0 < d.len → d.len ≤ 15 → d.len ≤ length (drop at bytes) →
@@ -112,6 +115,7 @@ so_far-stops once bits base bytes at address kept e far there more reads =
 
 -- ---- each is well placed
 
+-- instructions that were read are well placed
 pub are_placed : WrapsOnce → (bits : Bits) (ip : ℕ) (bytes : List ℕ) (items : List Placed) (ip' : ℕ) (rest : List ℕ) →
     ReadsUpTo bits ip bytes items ip' rest → ArePlaced bits (map (wrapped_item bits) items)
 are_placed once bits ip bytes [] ip' rest h k lt = absurd (omega arith)
@@ -127,6 +131,7 @@ are_placed once bits ip bytes (p ∷ ps) ip' rest h zero lt =
 are_placed once bits ip bytes (p ∷ ps) ip' rest h (suc k) lt =
     are_placed once bits (ip + p.len) (drop p.len bytes) ps ip' rest h.1 k (omega arith)
 
+-- and sound
 pub so_far-sound : WrapsOnce → (bits : Bits) (base : ℕ) (bytes : List ℕ) (at : ℕ) (kept : List Placed) → ReadSoFar bits base bytes at kept → AreSound bits kept
 so_far-sound once bits base bytes at kept far =
     let P : List Placed → Type 0 = λ xs. ArePlaced bits xs in

@@ -7,6 +7,7 @@ use Rattle.x86_values.specs.Wrapping.{width, modulo_width}
 use Rattle.move_goals.specs.declared.items.Placed.{Placed}
 use Rattle.code_items.specs.Items.{ReadsUpTo, wrapped_item}
 
+-- code that is read at an address that wraps is read alike
 pub wrapped-same : (bits : Bits) (ip : ℕ) (bytes : List ℕ) (items : List Placed) (ip' : ℕ) (rest : List ℕ) → ReadsUpTo bits ip bytes items ip' rest →
     ip + length bytes ≤ 2 ^ width bits → map (wrapped_item bits) items ≡ items
 wrapped-same bits ip bytes [] ip' rest h inside = refl

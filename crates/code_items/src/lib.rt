@@ -1,4 +1,4 @@
-//! Whole code as instructions: read one behind another, each with its address, and moved to another address. Nothing is asked of the bytes, the mode
+//! Whole code as instructions: read one behind another, each with its address, and moved to another address. Nothing is required of the bytes, the mode
 //! or the addresses.
 #![tactic(auto)]
 

@@ -19,7 +19,7 @@ use std::marker::Model;
 use thiserror::Error;
 use x86_values::Bits;
 
-/// Why some code is not moved. Where causes stand together the first of these in the order `BadCode`, `TooMany`, `Wraps`, `TooFar` is told; `Memory` may
+/// Why some code is not moved. Where causes stand together the first of these in the order `BadCode`, `TooMany`, `Wraps`, `TooFar` is reported; `Memory` may
 /// stand in place of each.
 #[derive(Clone, Copy, PartialEq, Eq, Debug, Error)]
 pub enum MoveCodeError {

@@ -54,9 +54,9 @@ impl Model for Region {
     ghost invariant = { λ r. IsKept r.base r.max_blocks r.bytes.items r.spans.items (vec_capacity r.spans) × IsTight r.packed r.spans.items };
 }
 
-/// Why a region is refused, if it is; memory is another matter.
+/// Why a region of this size and with room for so many blocks is refused, if it is; memory is another matter.
 #[tactic(auto, using(std::proofs::lemmas::Bool::Decides::nat_tests), unfolding(crate::specs::Opening::open_refusal))]
-fn refusal_of(base: u64, size: u64, max_blocks: u64) -> Option<OpenError>
+pub fn open_refusal(base: u64, size: u64, max_blocks: u64) -> Option<OpenError>
     ensures { result ≡ open_refusal base size max_blocks }
 {
     if size == 0 || size % UNIT != 0 || size > MAX_SIZE {
@@ -74,7 +74,7 @@ fn refusal_of(base: u64, size: u64, max_blocks: u64) -> Option<OpenError>
 
 /// A length rounded up to a multiple of the unit; one that rounds to no `u64` counts as the last multiple.
 #[inline]
-fn round_up(len: u64) -> u64
+pub fn round_up(len: u64) -> u64
     ensures { result ≡ len_in_units len }
 {
     if len > LAST_UNIT {
@@ -107,7 +107,7 @@ impl Region {
         ensures cause { IfErr result (λ error. (open_refusal base size max_blocks ≡ Some error) ⊎ (error ≡ OpenError.Memory)) }
         ensures ok { IfOk result (λ region. region ≡ empty_region base size max_blocks) }
     {
-        if let Some(refusal) = refusal_of(base, size, max_blocks) {
+        if let Some(refusal) = open_refusal(base, size, max_blocks) {
             return Err(refusal);
         }
         let Ok(bytes) = vec![in alloc; INT3; size as usize] else {

@@ -26,7 +26,7 @@ pub fn erase(image: &mut [u8], start: usize, len: usize)
 }
 
 /// Writes `content` at `start`, and INT3 over the rest of the `len` bytes from there.
-fn copy(image: &mut [u8], start: usize, len: usize, content: &[u8])
+pub fn write_bytes(image: &mut [u8], start: usize, len: usize, content: &[u8])
     requires inside { start + len ≤ length image.old }
     requires fits { length content.now ≤ len }
     ensures { image.new ≡ with_bytes_at image.old start (content.now ++ replicate (len - length content.now) int3) }
@@ -52,7 +52,7 @@ pub fn write(image: &mut [u8], start: usize, len: usize, content: Content<'_>)
     ensures { image.new ≡ with_bytes_at image.old start (content_bytes content.entry ++ replicate (len - length (content_bytes content.entry)) int3) }
 {
     match content {
-        Content::Bytes(bytes) => copy(image, start, len, bytes),
+        Content::Bytes(bytes) => write_bytes(image, start, len, bytes),
         Content::Repeated { byte, count } => repeat(image, start, len, byte, count),
     }
 }

@@ -12,6 +12,7 @@ pub mod laws;
 pub mod live_entries;
 mod refusals;
 
-pub use blocks::Region;
+pub use blocks::{Region, open_refusal, round_up};
 pub use commands::{Command, Reply, replay};
+pub use contents::write_bytes;
 pub use refusals::{FillError, NotTaken, OpenError, PlaceError};

@@ -11,10 +11,12 @@ use Rattle.command_words.specs.Words.{texts, number_word, address_within, block_
 
 -- ---- the texts of the words behind some
 
+-- there is a text for each word
 pub texts-length : (words : List (Bor (List ℕ))) → length (texts words) ≡ length words
 texts-length [] = refl
 texts-length (word ∷ words) = ap suc (texts-length words)
 
+-- dropping words drops their texts
 pub texts-drop : (n : ℕ) (words : List (Bor (List ℕ))) → texts (drop n words) ≡ drop n (texts words)
 texts-drop zero words = refl
 texts-drop (suc n) [] = refl
@@ -81,6 +83,7 @@ old-before bits None words before read = let none : 0 ≡ before = cc in omega a
 old-before bits (Some old) [] before read = let one : 1 ≡ before = cc in omega arith
 old-before bits (Some old) (new ∷ words) before read = new-before old (address_within bits (number_word new)) words before read
 
+-- at most two words of a block come before the wrong one
 pub two_before : (bits : Bits) (words : List (List ℕ)) (before : ℕ) → block_at bits words ≡ Err before → before ≤ 2
 unfolding block_at
 two_before bits [] before read = let none : 0 ≡ before = cc in omega arith
@@ -101,6 +104,7 @@ pub step-wrong : (room : ℕ) (bits : Bits) (blocks : List BlockWords) (words : 
 unfolding blocks_from
 step-wrong room bits blocks words before read = rw (read, blocks_from) refl
 
+-- a block with a wrong word makes the command wrong there
 pub blocks-wrong : (left room : ℕ) (bits : Bits) (blocks : List BlockWords) (words : List (List ℕ)) (before : ℕ) → left ≡ room + 1 →
     block_at bits words ≡ Err before → blocks_from left bits blocks words ≡ Wrong (3 + 3 * length blocks + before)
 blocks-wrong left room bits blocks words before one read = rw (one, add-one) (step-wrong room bits blocks words before read)
@@ -118,6 +122,7 @@ step-last room bits blocks words block read last =
     let told : blocks_from (suc room) bits blocks words ≡ next block.len = rw (read, blocks_from) refl in
     told ∙ ap next (none-of block.len last)
 
+-- a block that ends the words is the last
 pub blocks-last : (left room : ℕ) (bits : Bits) (blocks : List BlockWords) (words : List (List ℕ)) (block : BlockWords) → left ≡ room + 1 →
     block_at bits words ≡ Ok block → is_some block.len ≡ false → blocks_from left bits blocks words ≡ Blocks bits (record { items = blocks ++ block ∷ [] })
 blocks-last left room bits blocks words block one read last = rw (one, add-one) (step-last room bits blocks words block read last)
@@ -135,6 +140,7 @@ step-more room bits blocks words block read some =
     let told : blocks_from (suc room) bits blocks words ≡ next block.len = rw (read, blocks_from) refl in
     told ∙ ap next (some-of block.len some).1
 
+-- after any other the blocks go on
 pub blocks-more : (left room : ℕ) (bits : Bits) (blocks : List BlockWords) (words : List (List ℕ)) (block : BlockWords) → left ≡ room + 1 →
     block_at bits words ≡ Ok block → is_some block.len ≡ true →
     blocks_from left bits blocks words ≡ blocks_from room bits (blocks ++ block ∷ []) (drop 3 words)

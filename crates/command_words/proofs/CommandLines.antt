@@ -234,10 +234,12 @@ code_end_sound ThroughSlots bits base = slots_sound bits base
 
 -- ---- the words BITS BASE
 
+-- a command line by its mode and base, with every word that may follow
 abbrev pub FullBase : Through → Bits → Words → Type 0
 FullBase through bits [] = ⊥
 FullBase through bits (old ∷ words) = (start : ℕ) × ((address_within bits (number_word old) ≡ Some start) × FullBehind through bits words)
 
+-- a command line by its mode, with every word that may follow
 abbrev pub FullBits : Through → Words → Type 0
 FullBits through [] = ⊥
 FullBits through (mode ∷ words) = (bits : Bits) × ((mode_named mode ≡ Some bits) × FullBase through bits words)

@@ -121,6 +121,7 @@ not-later f ws j k a b lt =
       | inr x ↦ absurd (omega (arith, x.0))
     ]
 
+-- a command line has one first wrong word
 pub one_first : (f : Words → Command) (ws : Words) (j k : ℕ) → First 0 f ws j → First 0 f ws k → j ≡ k
 one_first f ws j k a b =
     let not_less : a.before < b.before → ⊥ = not-later f ws j k a b in

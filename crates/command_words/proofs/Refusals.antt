@@ -74,6 +74,7 @@ unfolding command_of
 named_slots name words e =
     let same : name ≡ codes "slots" = (slice_eq-Decides Decides-eqb name (codes "slots") (same_text name (codes "slots")) refl).0 e in subst (λ (xs : List ℕ). command_of (xs ∷ words) ≡ code_words ThroughSlots words) (sym same) refl
 
+-- a range without an address is refused at word 5
 pub no_room : (words : Words) → HasNoRoom words → command_of words ≡ Wrong 5
 no_room [] b = absurd b
 no_room (name ∷ []) b = absurd b

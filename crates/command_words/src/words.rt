@@ -347,7 +347,7 @@ fn block_len(old: u64, new: u64, len: Option<u64>) -> Result<BlockWords, u64>
 }
 
 /// The words behind `OLD` of a block and a word for `NEW`: the block, the last one where no word is left; else how many words
-/// of the block stand before the first that is not allowed.
+/// of the block precede the first that is not allowed.
 #[tactic(auto, unfolding(crate::specs::Words::block_new))]
 fn block_new(old: u64, new: Option<u64>, words: &[&str]) -> Result<BlockWords, u64>
     ensures { result ≡ spec.block_new old new (spec.texts words.now) }
@@ -379,7 +379,7 @@ fn block_old(bits: Bits, old: Option<u64>, words: &[&str]) -> Result<BlockWords,
     }
 }
 
-/// The block at the front of some words; else how many words of it stand before the first that is not allowed or missing.
+/// The block at the front of some words; else how many words of it precede the first that is not allowed or missing.
 #[tactic(auto, unfolding(crate::specs::Words::block_at))]
 fn block_at(bits: Bits, words: &[&str]) -> Result<BlockWords, u64>
     ensures { result ≡ spec.block_at bits (spec.texts words.now) }

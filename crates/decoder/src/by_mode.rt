@@ -27,7 +27,7 @@ pub fn decode_in(bits: Bits, ip: u64, bytes: &[u8]) -> Result<Decoded, DecodeErr
     }
 }
 
-/// Reads as [`decode_in`], and writes the instruction to `out`. After an error nothing is said of what stands there.
+/// Reads as [`decode_in`], and writes the instruction to `out`. After an error `out` holds no instruction.
 #[inline(always)]
 pub fn decode_onto(bits: Bits, ip: u64, bytes: &[u8], out: &mut Decoded) -> Result<(), DecodeError>
     ensures reading { IsRead bits ip bytes.now (reading_of (answer_in result out.new)) }

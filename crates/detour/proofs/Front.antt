@@ -51,6 +51,7 @@ read_more bits ip code offset (q ∷ items) p h at e address reads =
     let sum = sum_by-cons (λ (x : Placed). x.len) q items in
     (h.0, read_more bits ip code (offset + q.len) items p h.1 at (omega (arith, e, sum)) address reads)
 
+-- no instructions are the front of any code
 pub front_none : (bits : Bits) (ip : ℕ) (code : List ℕ) → IsFront bits ip code []
 front_none bits ip code = record {
   read = tt;

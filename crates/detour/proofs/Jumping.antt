@@ -11,6 +11,7 @@ use Rattle.move_goals.specs.Items.{IsPlaced}
 use Rattle.detour.specs.Jumps.{near_jump_to, IsNearJump, IsOutOfReach}
 use Rattle.detour.specs.LawsBelow.{DetourLawsBelow}
 
+-- the near jump to an address has four operands
 pub jump-four : (bits : Bits) (t : ℕ) → length (near_jump_to bits t).ops ≡ 4
 unfolding near_jump_to branch_to
 jump-four bits t = refl

@@ -71,6 +71,7 @@ back_few bits ip items =
       | inr goes ↦ rw goes (omega arith)
     ]
 
+-- the items of a trampoline are the taken instructions and one jump
 pub block_few : (bits : Bits) (ip : ℕ) (items : List Placed) → moved_count items ≤ length items → length (block_items bits ip items) ≤ length items + 1
 unfolding block_items
 block_few bits ip items within =

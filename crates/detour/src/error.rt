@@ -7,7 +7,7 @@ use decoder::DecodeError;
 use std::alloc::{AllocError, AllocFailed};
 use thiserror::Error;
 
-/// Why there is no detour. Where causes stand together the first of these behind `Memory` is told; `Memory` may stand in place of each.
+/// Why there is no detour. Where causes stand together the first of these behind `Memory` is reported; `Memory` may stand in place of each.
 ///
 /// Offsets count from the function's first byte.
 #[derive(Clone, Copy, PartialEq, Eq, Debug, Error)]
@@ -21,7 +21,7 @@ pub enum DetourError {
     /// The code has `len` bytes of instructions, and the jump has `need`.
     #[error("{len} bytes are too few for a jump of {need}")]
     TooSmall { len: u64, need: u64 },
-    /// At this offset, in the part to be taken, code that is no padding stands behind an instruction that never goes on.
+    /// At this offset, in the part to be taken, code that is no padding follows an instruction that never goes on.
     #[error("the code ends before offset {at:#x}, where other code stands")]
     Ends { at: u64 },
     /// From the first of these offsets control may go to the second one, in the part to be taken and behind its first byte.

@@ -37,7 +37,7 @@ fn move_refusal(why: MoveError) -> DetourError
     }
 }
 
-/// The instructions to be taken for a jump of `need` bytes, where nothing but padding stands behind one that never goes on.
+/// The instructions to be taken for a jump of `need` bytes, where nothing but padding follows one that never goes on.
 fn take_whole(
     alloc: Global,
     bits: Bits,
@@ -70,7 +70,7 @@ fn relay_behind(place: u64, len: usize) -> Option<u64>
     }
 }
 
-/// That there is no relay, where nothing is taken for another cause than want of memory.
+/// That there is no relay, where nothing is taken for another cause than lack of memory.
 fn no_relay_for(why: DetourError) -> Result<Option<u64>, DetourError>
     ensures none { IfOk result (λ relay. (relay ≡ None) × (why ≡ Memory → ⊥)) }
     ensures refused { IfErr result (λ error. error ≡ Memory) }
@@ -81,7 +81,7 @@ fn no_relay_for(why: DetourError) -> Result<Option<u64>, DetourError>
     }
 }
 
-/// That there is no relay, where what is taken is not moved for another cause than want of memory.
+/// That there is no relay, where what is taken is not moved for another cause than lack of memory.
 fn no_relay_behind(why: MoveError) -> Result<Option<u64>, DetourError>
     ensures none { IfOk result (λ relay. (relay ≡ None) × (why ≡ move_error.Memory → ⊥)) }
     ensures refused { IfErr result (λ error. error ≡ Memory) }

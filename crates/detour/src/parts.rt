@@ -9,7 +9,7 @@ use std::marker::Model;
 pub enum JumpForm {
     /// The near jump of the mode.
     Near,
-    /// A near jump to a relay, which stands behind the trampoline and has the address of the replacement.
+    /// A near jump to a relay, which follows the trampoline and has the address of the replacement.
     Relay,
     /// `FF 25` and the address of the replacement behind it, 14 bytes.
     Absolute,

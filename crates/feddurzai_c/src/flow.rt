@@ -1,67 +1,18 @@
 //! What control reaches.
 
-ghost use Rattle.std.specs.Prelude.{◌≡◌, ◌<◌, ◌≤◌, ◌++◌, ◌^◌, length, drop, pos, Ok, Err};
-ghost use Rattle.feddurzai_c.specs.Numbers.{bits_numbered};
-ghost use Rattle.feddurzai_c.specs.Flow as spec;
+ghost use Rattle.c_calls.specs.Flow.{IsFlow};
+ghost use Rattle.c_calls.specs.FlowFrom.{IsFlowFrom};
 
-use crate::numbers::bits_numbered;
-use crate::refusal::{Refusal, refusal_status};
-use crate::room::count_answer;
-use flow_graph::{FlowError, FlowGraph, flow_graph_in};
+use c_calls::{flow, flow_from};
 use std::alloc::Global;
 
-/// How many bytes of code are followed together at most.
-const MOST: usize = 1_048_576;
-
-/// What control reaches in some code.
-fn graph_of(alloc: Global, bits: u32, base: u64, bytes: &[u8]) -> Result<FlowGraph, Refusal>
-    ensures { spec.IsGraphAnswer (bits_numbered bits) base bytes.now result }
-{
-    let Some(bits) = bits_numbered(bits) else {
-        return Err(Refusal::Mode);
-    };
-    if bytes.len() > MOST {
-        return Err(Refusal::TooLarge);
-    }
-    match flow_graph_in(alloc, bits, base, bytes) {
-        Ok(graph) => Ok(graph),
-        Err(FlowError::Memory) => Err(Refusal::Memory),
-    }
-}
-
-/// Writes numbers at the front of a room.
-pub(crate) fn write_numbers(out: &mut [u32], numbers: &[u32])
-    requires { length numbers.now ≤ length out.old }
-    ensures { out.new ≡ numbers.now ++ drop (length numbers.now) out.old }
-{
-    out[..numbers.len()].copy_from_slice(numbers);
-}
-
-/// Writes the lists of a graph where both rooms hold them, and says how many offsets are reached.
-#[tactic(auto, unfolding(crate::specs::Flow::graph_within))]
-fn put_graph(graph: &FlowGraph, starts: &mut [u32], leaders: &mut [u32]) -> i32
-    requires few { length graph.now.starts < 2 ^ 31 }
-    requires len { length graph.now.leaders ≡ length graph.now.starts }
-    ensures said { result ≡ spec.graph_said (spec.graph_within (length starts.old) (length leaders.old) (Ok graph.now)) }
-    ensures starts { starts.new ≡ spec.starts_left starts.old (spec.graph_within (length starts.old) (length leaders.old) (Ok graph.now)) }
-    ensures leaders { leaders.new ≡ spec.leaders_left leaders.old (spec.graph_within (length starts.old) (length leaders.old) (Ok graph.now)) }
-{
-    let count = graph.starts().len();
-    if count > starts.len() || count > leaders.len() {
-        return refusal_status(Refusal::Room);
-    }
-    write_numbers(starts, graph.starts());
-    write_numbers(leaders, graph.leaders());
-    count_answer(count)
-}
-
-/// Follows control from the first byte of some code, which has the address `base`, and says how many offsets it reaches: their list in ascending
-/// order goes to `starts`, and beside each the first offset of its basic block to `leaders`.
+/// Follows control from the first byte of some code, whose address is `base`, and returns how many offsets it reaches: `starts` receives their list in
+/// ascending order, and `leaders` for each the first offset of its basic block.
 ///
-/// From an instruction control goes to its end, unless it is a jump, a return or an undefined instruction, and to its near target, if it has one, as
-/// far as there are bytes. Addresses are taken modulo 2 to the number of bits of the mode. The refusals are `Mode`, `TooLarge` above 1,048,576 bytes,
-/// `Memory`, and `Room` where a room has fewer places than there are reached offsets, of which there are no more than bytes. Rooms are unchanged behind the lists and
-/// after a refusal. It takes memory of the C library, and gives it back.
+/// From an instruction control goes to its end, unless it is a jump, a return or an undefined instruction, and to its near target, if it has one, as far as
+/// there are bytes. Addresses are taken modulo 2 to the number of bits of the mode. Refusals: `Mode`, `TooLarge` above 1,048,576 bytes, `Memory`, and `Room` if
+/// a buffer has fewer elements than there are reached offsets, which are no more than the bytes. Buffers are unchanged after the lists and after a refusal. The
+/// call allocates from the C library, and frees what it took.
 #[unsafe(no_mangle)]
 pub extern "C" fn feddurzai_flow(
     alloc: Global,
@@ -71,10 +22,30 @@ pub extern "C" fn feddurzai_flow(
     starts: &mut [u32],
     leaders: &mut [u32],
 ) -> i32
-    ensures { spec.IsFlow bits base bytes.now starts.old leaders.old starts.new leaders.new result }
+    ensures { IsFlow bits base bytes.now starts.old leaders.old starts.new leaders.new result }
 {
-    match graph_of(alloc, bits, base, bytes) {
-        Ok(graph) => put_graph(&graph, starts, leaders),
-        Err(why) => refusal_status(why),
-    }
+    flow::flow(alloc, bits, base, bytes, starts, leaders)
+}
+
+/// Follows control from several first offsets of some code, whose first byte has the address `base`, and returns how many offsets it reaches. `starts` receives
+/// their list in ascending order, `leaders` for each the first offset of its basic block, and `kinds` the flow of its instruction, or 0xff if none is read and
+/// 0xfe if the bytes end before it does.
+///
+/// Control goes as in `feddurzai_flow`. A first offset at which there is no byte adds nothing, nor does one that is listed again. Each other one begins a basic
+/// block. Refusals: `Mode`, `TooLarge` above 16,777,216 bytes, `Memory`, and `Room` if a buffer has fewer elements than there are reached offsets, which are no
+/// more than the bytes. Buffers are unchanged after the lists and after a refusal. The call allocates from the C library, and frees what it took.
+#[unsafe(no_mangle)]
+pub extern "C" fn feddurzai_flow_from(
+    alloc: Global,
+    bits: u32,
+    base: u64,
+    bytes: &[u8],
+    entries: &[u32],
+    starts: &mut [u32],
+    leaders: &mut [u32],
+    kinds: &mut [u8],
+) -> i32
+    ensures { IsFlowFrom bits base bytes.now entries.now starts.old leaders.old kinds.old starts.new leaders.new kinds.new result }
+{
+    flow_from::flow_from(alloc, bits, base, bytes, entries, starts, leaders, kinds)
 }

@@ -1,145 +1,22 @@
 //! Moving code.
 
-ghost use Rattle.std.specs.Prelude.{◌≡◌, ◌≤◌, ◌++◌, length, drop};
-ghost use Rattle.feddurzai_c.specs.Moving as spec;
+ghost use Rattle.c_calls.specs.Blocks.{IsBlocksMove};
+ghost use Rattle.c_calls.specs.Moving.{IsMove};
+ghost use Rattle.c_calls.specs.declared.moved.Targets.TheVariants.{Follow, Stay};
 
-use crate::flat::{FlatMove, FlatMoved};
-use crate::moved::{MoveRefusal, MovedCode, Targets, moved_code};
-use crate::refusal::{Refusal, refusal_status};
-use crate::room::write_front;
-use block_encoder::Moved;
-use decoder::DecodeError;
+use c_calls::flat::{FlatBlock, FlatBlocks, FlatMove, FlatMoved, FlatPlace};
+use c_calls::{blocks, moving};
 use std::alloc::Global;
 
-/// Why nothing is moved, by the refusals of all calls.
-fn refusal_of(why: MoveRefusal) -> Refusal
-    ensures { result ≡ spec.refusal_of why }
-{
-    match why {
-        MoveRefusal::Mode => Refusal::Mode,
-        MoveRefusal::TooLarge => Refusal::TooLarge,
-        MoveRefusal::BadCode { error, .. } => match error {
-            DecodeError::Invalid => Refusal::Invalid,
-            DecodeError::TooShort => Refusal::TooShort,
-        },
-        MoveRefusal::Memory => Refusal::Memory,
-        MoveRefusal::TooMany { .. } => Refusal::TooMany,
-        MoveRefusal::Wraps { .. } => Refusal::Wraps,
-        MoveRefusal::TooFar { .. } => Refusal::TooFar,
-        MoveRefusal::Room => Refusal::Room,
-    }
-}
-
-/// No numbers.
-const NOTHING: FlatMove = FlatMove {
-    bytes: 0,
-    count: 0,
-    at: 0,
-    address: 0,
-    code_bytes: 0,
-    slots_at: 0,
-};
-
-/// The numbers of a refusal.
-fn refusal_report(why: MoveRefusal) -> FlatMove
-    ensures { result ≡ spec.refusal_report why }
-{
-    match why {
-        MoveRefusal::BadCode { at, .. } => FlatMove { at, ..NOTHING },
-        MoveRefusal::TooMany { count } => FlatMove { count, ..NOTHING },
-        MoveRefusal::Wraps { end } => FlatMove {
-            address: (end % 0x1_0000_0000_0000_0000) as u64,
-            ..NOTHING
-        },
-        MoveRefusal::TooFar { at, target } => FlatMove {
-            at,
-            address: target,
-            ..NOTHING
-        },
-        _ => NOTHING,
-    }
-}
-
-/// The offset of the first slot, and how many bytes there are where there is none.
-fn slots_offset(moved: &Moved) -> u64
-    ensures { result ≡ spec.slots_offset moved.now }
-{
-    let slots = moved.slots().len() as u64;
-    (moved.bytes().len() as u64).saturating_sub(8 * slots)
-}
-
-/// The numbers of an answer.
-fn report_of(answer: &Result<MovedCode, MoveRefusal>) -> FlatMove
-    ensures { result ≡ spec.report_of answer.now }
-{
-    match answer {
-        Ok(m) => FlatMove {
-            bytes: m.moved.bytes().len() as u64,
-            count: m.entries.len() as u64,
-            code_bytes: m.code_len,
-            slots_at: slots_offset(&m.moved),
-            ..NOTHING
-        },
-        Err(why) => refusal_report(*why),
-    }
-}
-
-/// Writes entries at the front of a room.
-pub(crate) fn write_entries(map: &mut [FlatMoved], entries: &[FlatMoved])
-    requires { length entries.now ≤ length map.old }
-    ensures { map.new ≡ entries.now ++ drop (length entries.now) map.old }
-{
-    map[..entries.len()].copy_from_slice(entries);
-}
-
-/// Writes the moved bytes and the map, where both rooms hold them.
-#[tactic(auto, unfolding(crate::specs::Moving::moved_within))]
-fn put_moved(answer: &Result<MovedCode, MoveRefusal>, out: &mut [u8], map: &mut [FlatMoved]) -> i32
-    ensures said { result ≡ spec.moved_said (spec.moved_within (length out.old) (length map.old) answer.now) }
-    ensures bytes { out.new ≡ spec.bytes_left out.old (spec.moved_within (length out.old) (length map.old) answer.now) }
-    ensures entries { map.new ≡ spec.entries_left map.old (spec.moved_within (length out.old) (length map.old) answer.now) }
-{
-    match answer {
-        Ok(m) => {
-            let bytes = m.moved.bytes();
-            if bytes.len() > out.len() || m.entries.len() > map.len() {
-                return refusal_status(Refusal::Room);
-            }
-            write_front(out, bytes);
-            write_entries(map, &m.entries);
-            0
-        }
-        Err(why) => refusal_status(refusal_of(*why)),
-    }
-}
-
-/// Moves code, and leaves the moved bytes, the map and the report.
-fn move_by(
-    alloc: Global,
-    targets: Targets,
-    bits: u32,
-    old: u64,
-    bytes: &[u8],
-    new: u64,
-    out: &mut [u8],
-    map: &mut [FlatMoved],
-    report: &mut FlatMove,
-) -> i32
-    ensures { spec.IsMove targets bits old bytes.now new out.old out.new map.old map.new report.new result }
-{
-    let answer = moved_code(alloc, targets, bits, old, bytes, new);
-    *report = report_of(&answer);
-    put_moved(&answer, out, map)
-}
-
-/// Moves code from the address `old` to the address `new`: every branch and every operand at RIP or EIP still reaches what it reached, or follows it
-/// where that is moved too. It says 0.
+/// Moves code from the address `old` to the address `new`: every branch and every operand at RIP or EIP still reaches what it reached, or follows it if that is
+/// moved too. It returns 0.
 ///
-/// The moved bytes go to `out`, with the slots that far branches go through behind them; `map` gets an entry for each instruction. `report` gets how
-/// many bytes and instructions there are, how many bytes the code has before the slots and where those begin, also where a room is too small; or the numbers of the refusal: of `Invalid` and `TooShort` the
-/// offset, of `TooMany` (above 65,536) how many, of `Wraps` the old or the new end modulo 2 to the 64, of `TooFar` the number of the instruction, from
-/// 0, and its target. The other refusals are `Mode`, `TooLarge` above 1,048,576 bytes, `Memory` and `Room`. Rooms are unchanged behind what is written
-/// and after a refusal. Of no bytes both ends are the new address. It takes memory of the C library, and gives it back.
+/// `out` receives the moved bytes, followed by the slots of far branches, and `map` an entry for each instruction. `report` receives the numbers of bytes and
+/// of instructions, the number of bytes before the slots and the offset of the slots, also if a buffer is too small; or the numbers of the refusal. These are,
+/// for `Invalid` and `TooShort` the offset, for `TooMany` (above 65,536) how many instructions there are, for `Wraps` the old or the new end modulo 2 to the
+/// 64, for `TooFar` the number of the instruction, from 0, and its target. The other refusals are `Mode`, `TooLarge` above 1,048,576 bytes, `Memory` and
+/// `Room`. Buffers are unchanged after what is written and after a refusal. For no bytes both ends are the new address. The call allocates from the C library,
+/// and frees what it took.
 #[unsafe(no_mangle)]
 pub extern "C" fn feddurzai_move(
     alloc: Global,
@@ -151,26 +28,16 @@ pub extern "C" fn feddurzai_move(
     map: &mut [FlatMoved],
     report: &mut FlatMove,
 ) -> i32
-    ensures { spec.IsMove Targets.Follow bits old bytes.now new out.old out.new map.old map.new report.new result }
+    ensures { IsMove Follow bits old bytes.now new out.old out.new map.old map.new report.new result }
 {
-    move_by(
-        alloc,
-        Targets::Follow,
-        bits,
-        old,
-        bytes,
-        new,
-        out,
-        map,
-        report,
-    )
+    moving::move_code(alloc, bits, old, bytes, new, out, map, report)
 }
 
-/// Moves code from the address `old` to the address `new` and keeps every target: a branch and an operand at RIP or EIP reach what they reached, also where
-/// that is one of the moved instructions. Answer, report and refusals are those of `feddurzai_move`.
+/// Moves code from the address `old` to the address `new` and keeps every target: a branch and an operand at RIP or EIP reach what they reached, even if that
+/// is one of the moved instructions. Answer, report and refusals are those of `feddurzai_move`.
 ///
-/// So an instruction moved by itself does there what it did at its old place, also where it branches to itself, and a jump to the old end that is put
-/// behind some code is a jump back.
+/// So an instruction that is moved alone does there what it did at its old place, even if it branches to itself, and a jump to the old end that follows some
+/// code is a jump back.
 #[unsafe(no_mangle)]
 pub extern "C" fn feddurzai_move_outside(
     alloc: Global,
@@ -182,17 +49,36 @@ pub extern "C" fn feddurzai_move_outside(
     map: &mut [FlatMoved],
     report: &mut FlatMove,
 ) -> i32
-    ensures { spec.IsMove Targets.Stay bits old bytes.now new out.old out.new map.old map.new report.new result }
+    ensures { IsMove Stay bits old bytes.now new out.old out.new map.old map.new report.new result }
 {
-    move_by(
-        alloc,
-        Targets::Stay,
-        bits,
-        old,
-        bytes,
-        new,
-        out,
-        map,
-        report,
-    )
+    moving::move_outside(alloc, bits, old, bytes, new, out, map, report)
+}
+
+/// Moves several blocks of code at once, each to an address of its own: every branch and every operand at RIP or EIP still reaches what it reached, or follows
+/// it if that is an instruction of any of the blocks. It returns 0.
+///
+/// A block has an old and a new address, and its bytes are the `len` of `bytes` from `offset` on; blocks may overlap there. A target follows the instruction of
+/// the same block that began there, otherwise the first one of another block. `out` receives the moved blocks one after another, each with its slots. `places`
+/// receives for each block where it ends there, its number of bytes before the gap and its slots, and its number of instructions; `map` an entry for each
+/// instruction, block by block. `report` receives the numbers of bytes and of instructions, also if a buffer is too small; or the numbers of the refusal.
+///
+/// These are `Mode`; `TooLarge` above 65,536 blocks or 1,048,576 bytes together. For the first block that is not read, with its number: `Block` if it is not
+/// inside the bytes, `Wraps` if it ended past the address space, with this end modulo 2 to the 64, `Invalid` or `TooShort` with the offset in it. Then
+/// `TooMany` (above 65,536) with the number of instructions; `Wraps` with the new end past the address space and, in place of a block's number, the number of
+/// blocks; `TooFar` with the block, the number of the instruction in it and its target; and `Room`. `Memory` may replace any of those after `TooLarge`. Buffers
+/// are unchanged after what is written and after a refusal. The call allocates from the C library, and frees what it took.
+#[unsafe(no_mangle)]
+pub extern "C" fn feddurzai_move_blocks(
+    alloc: Global,
+    bits: u32,
+    bytes: &[u8],
+    blocks: &[FlatBlock],
+    out: &mut [u8],
+    places: &mut [FlatPlace],
+    map: &mut [FlatMoved],
+    report: &mut FlatBlocks,
+) -> i32
+    ensures { IsBlocksMove bits bytes.now blocks.now out.old out.new places.old places.new map.old map.new report.new result }
+{
+    blocks::move_blocks(alloc, bits, bytes, blocks, out, places, map, report)
 }

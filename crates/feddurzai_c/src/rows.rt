@@ -1,70 +1,62 @@
-//! The rows of the table: names and notations.
+//! The rows of the table.
 
-ghost use Rattle.std.specs.Prelude.{◌≡◌, ◌<◌, length, IfSome, IsNone, ◌↔◌, ◌≤◌};
-ghost use Rattle.feddurzai_c.specs.Answers as spec;
+ghost use Rattle.std.specs.Prelude.{length, ◌≡◌};
+ghost use Rattle.c_calls.specs.Answers.{IsCodeNamed, count_or_refusal, name_answer, notation_answer, text_within, with_text};
+ghost use Rattle.c_calls.specs.Info.{access_number};
+ghost use Rattle.c_calls.specs.RowOperands.{access_left, kind_answer};
+ghost use Rattle.c_calls.specs.RowColumns.{access_of};
 
-use crate::refusal::{Refusal, refusal_status};
-use crate::room::put_text;
-use opcode_rows::ROWS;
-use std::str::from_utf8;
-use text_rows::row_lines::notation_of;
-use x86_values::Code;
+use c_calls::{row_operands, rows};
 
-/// The code of a number, where it is one of the table.
-pub(crate) fn code_numbered(n: u32) -> Option<Code>
-    ensures row { IfSome result (λ code. (code.0 ≡ n) × (n < ROWS)) }
-    ensures none { IsNone result → ROWS ≤ n }
-{
-    if n < u32::from(ROWS) {
-        Some(Code(n as u16))
-    } else {
-        None
-    }
-}
-
-/// Writes the name of a row, a mnemonic in lower case of 1 to 16 bytes, and a byte 0 behind it, and says how many bytes the name has.
+/// Writes the name of a row, a mnemonic in lower case of 1 to 16 bytes, with a terminating 0, and returns the length of the name.
 ///
-/// `Code` where there is no such row, `Room` where the room is too small.
-#[tactic(auto, unfolding(crate::specs::Answers::name_answer, crate::specs::Answers::text_within))]
+/// Refusals: `Code` if there is no such row, `Room`.
 #[unsafe(no_mangle)]
 pub extern "C" fn feddurzai_name(code: u32, out: &mut [u8]) -> i32
-    ensures said { result ≡ spec.count_or_refusal (spec.text_within (length out.old) (spec.name_answer code)) }
-    ensures left { out.new ≡ spec.with_text out.old (spec.text_within (length out.old) (spec.name_answer code)) }
+    ensures said { result ≡ count_or_refusal (text_within (length out.old) (name_answer code)) }
+    ensures left { out.new ≡ with_text out.old (text_within (length out.old) (name_answer code)) }
 {
-    match code_numbered(code) {
-        None => refusal_status(Refusal::Code),
-        Some(code) => put_text(out, opcode_rows::name(code).as_bytes()),
-    }
+    rows::name(code, out)
 }
 
-/// Writes the notation of a row as the manual has it, as `REX.W + 81 /0 id`, at most 64 bytes, and a byte 0 behind it, and says how many bytes the
-/// notation has (Intel SDM volume 2, 3.1.1).
+/// Writes the notation of a row as the manual has it, such as `REX.W + 81 /0 id`, with a terminating 0, and returns the length of the notation, at most 64
+/// (Intel SDM volume 2, 3.1.1).
 ///
-/// `Code` where there is no such row, `Room` where the room is too small.
-#[tactic(auto, unfolding(crate::specs::Answers::notation_answer, crate::specs::Answers::text_within))]
+/// Refusals: `Code` if there is no such row, `Room`.
 #[unsafe(no_mangle)]
 pub extern "C" fn feddurzai_notation(code: u32, out: &mut [u8]) -> i32
-    ensures said { result ≡ spec.count_or_refusal (spec.text_within (length out.old) (spec.notation_answer code)) }
-    ensures left { out.new ≡ spec.with_text out.old (spec.text_within (length out.old) (spec.notation_answer code)) }
+    ensures said { result ≡ count_or_refusal (text_within (length out.old) (notation_answer code)) }
+    ensures left { out.new ≡ with_text out.old (text_within (length out.old) (notation_answer code)) }
 {
-    match code_numbered(code) {
-        None => refusal_status(Refusal::Code),
-        Some(code) => put_text(out, &notation_of(code)),
-    }
+    rows::notation(code, out)
 }
 
-/// The code of the `n`-th row of a name, from 0, in the order of the codes; the name is a mnemonic in lower case without a byte 0 at its end.
+/// Writes the word of the kind of a row's operand, ASCII, with a terminating 0, and its access, 0 to 3 as in `feddurzai_info`. It returns the length of the
+/// word, at most 5: 0 for an operand that the row does not have.
 ///
-/// `Name` exactly where the name has no more than `n` rows, or is no UTF-8.
+/// The operands have the numbers 0 to 3. The words are the manual's, such as `Eb` and `Gv`: how an operand is addressed, and its type. Z is a register by the
+/// opcode, and a fixed register has its name (Intel SDM volume 2, A.2). Refusals: `Code`, `Name` for any other number, `Room`, the first that applies; word and
+/// access are then unchanged.
+#[unsafe(no_mangle)]
+pub extern "C" fn feddurzai_row_operand(
+    code: u32,
+    index: u32,
+    access: &mut u8,
+    kind: &mut [u8],
+) -> i32
+    ensures said { result ≡ count_or_refusal (text_within (length kind.old) (kind_answer code index)) }
+    ensures left { kind.new ≡ with_text kind.old (text_within (length kind.old) (kind_answer code index)) }
+    ensures access { access.new ≡ access_left access.old (text_within (length kind.old) (kind_answer code index)) (access_number (access_of code index)) }
+{
+    row_operands::row_operand(code, index, access, kind)
+}
+
+/// Returns the code of the `n`-th row of a name, from 0, in the order of the codes. The name is a mnemonic in lower case without a terminating 0.
+///
+/// The refusal is `Name`, exactly if the name has no more than `n` rows or is not UTF-8.
 #[unsafe(no_mangle)]
 pub extern "C" fn feddurzai_code_of(name: &[u8], n: usize) -> i32
-    ensures { spec.IsCodeNamed name.now n result }
+    ensures { IsCodeNamed name.now n result }
 {
-    let Ok(name) = from_utf8(name) else {
-        return refusal_status(Refusal::Name);
-    };
-    match opcode_rows::code_of(name, n) {
-        Some(code) => i32::from(code.0),
-        None => refusal_status(Refusal::Name),
-    }
+    rows::code_of(name, n)
 }

@@ -1,77 +1,61 @@
-//! The text of an instruction.
+//! The texts of instructions, registers and features.
 
-ghost use Rattle.std.specs.Prelude.{◌≡◌, ◌≤◌, length, [], IsTrue, Ok};
-ghost use Rattle.opcode_rows.specs.Allowed.{is_well_formed};
-ghost use Rattle.feddurzai_c.specs.Answers as spec;
+ghost use Rattle.std.specs.Prelude.{length, ◌≡◌};
+ghost use Rattle.c_calls.specs.Answers.{count_or_refusal, text_answer, text_within, with_text};
+ghost use Rattle.c_calls.specs.Effects.{feature_answer};
+ghost use Rattle.c_calls.specs.Names.{register_answer, segment_answer};
 
-use crate::flat::FlatInstr;
-use crate::numbers::{bits_numbered, style_numbered};
-use crate::refusal::{Refusal, refusal_status};
-use crate::room::put_text;
-use crate::unflatten::instr_back_into;
-use decoder::UNREAD;
-use opcode_rows::well_formed;
-use text_parts::style::Style;
-use text_parts::text::Text;
-use x86_values::{Bits, Instr};
+use c_calls::flat::FlatInstr;
+use c_calls::{effects, names, texts};
 
-/// Appends the text of a well-formed instruction in AT&T's style to none.
-// A function of its own, so that the other styles do not pay for its frame.
-#[inline(never)]
-fn append_att_text(out: &mut Text, bits: Bits, instr: &Instr)
-    requires empty { out.old.items ≡ [] }
-    requires well { IsTrue (is_well_formed instr.now) }
-    ensures { out.new.items ≡ spec.style_text Style.Att bits instr.now }
-{
-    att_text::print_to(out, bits, instr);
-}
-
-/// Appends the text of a well-formed instruction in a style to none.
-#[inline(always)]
-pub(crate) fn append_style_text(out: &mut Text, style: Style, bits: Bits, instr: &Instr)
-    requires empty { out.old.items ≡ [] }
-    requires well { IsTrue (is_well_formed instr.now) }
-    ensures { out.new.items ≡ spec.style_text style bits instr.now }
-{
-    match style {
-        Style::Intel => intel_text::print_to(out, bits, instr),
-        Style::Att => append_att_text(out, bits, instr),
-        Style::Masm => masm_text::print_to(out, bits, instr),
-    }
-}
-
-/// Writes the text of a well-formed instruction in a style and a byte 0 behind it, where the room holds both, and says how many bytes the text has.
-#[inline(always)]
-fn put_style_text(style: Style, bits: Bits, instr: &Instr, out: &mut [u8]) -> i32
-    requires { IsTrue (is_well_formed instr.now) }
-    ensures said { result ≡ spec.count_or_refusal (spec.text_within (length out.old) (Ok (spec.style_text style bits instr.now))) }
-    ensures left { out.new ≡ spec.with_text out.old (spec.text_within (length out.old) (Ok (spec.style_text style bits instr.now))) }
-{
-    let mut text = Text::new();
-    append_style_text(&mut text, style, bits, instr);
-    put_text(out, &text)
-}
-
-/// Writes the text of an instruction in a style, ASCII, and a byte 0 behind it, and says how many bytes the text has: at most 160.
+/// Writes the text of an instruction in a style, ASCII, with a terminating 0, and returns the length of the text, at most 160.
 ///
-/// The style is 0 for Intel's, 1 for AT&T's, 2 for MASM's. The room is unchanged behind the byte 0, and whole after a refusal: `Mode`, `Syntax`,
-/// `Instr`, `Form`, `Room`, the first that stands.
-#[tactic(auto, unfolding(crate::specs::Answers::instr_text_of, crate::specs::Answers::text_within))]
+/// The style is 0 for Intel, 1 for AT&T, 2 for MASM. The buffer is unchanged after the terminating 0. Refusals: `Mode`, `Syntax`, `Instr`, `Form`, `Room`, the
+/// first that applies; the buffer is then unchanged.
 #[unsafe(no_mangle)]
 pub extern "C" fn feddurzai_text(bits: u32, syntax: u32, instr: &FlatInstr, out: &mut [u8]) -> i32
-    ensures said { result ≡ spec.count_or_refusal (spec.text_within (length out.old) (spec.text_answer bits syntax instr.now)) }
-    ensures left { out.new ≡ spec.with_text out.old (spec.text_within (length out.old) (spec.text_answer bits syntax instr.now)) }
+    ensures said { result ≡ count_or_refusal (text_within (length out.old) (text_answer bits syntax instr.now)) }
+    ensures left { out.new ≡ with_text out.old (text_within (length out.old) (text_answer bits syntax instr.now)) }
 {
-    let Some(bits) = bits_numbered(bits) else {
-        return refusal_status(Refusal::Mode);
-    };
-    let Some(style) = style_numbered(syntax) else {
-        return refusal_status(Refusal::Syntax);
-    };
-    let mut read = UNREAD.instr;
-    match instr_back_into(instr, &mut read) {
-        None => refusal_status(Refusal::Instr),
-        Some(()) if well_formed(&read) => put_style_text(style, bits, &read, out),
-        Some(()) => refusal_status(Refusal::Form),
-    }
+    texts::text(bits, syntax, instr, out)
+}
+
+/// Writes the name of a register in a style, ASCII, with a terminating 0, and returns the length of the name, at most 6.
+///
+/// The register is given by its class and its number in the class. Refusals: `Syntax`, `Register` if there is none, `Room`, the first that applies; the buffer
+/// is then unchanged (Intel SDM volume 1, 3.4).
+#[unsafe(no_mangle)]
+pub extern "C" fn feddurzai_register_text(
+    syntax: u32,
+    reg_class: u8,
+    reg_number: u8,
+    out: &mut [u8],
+) -> i32
+    ensures said { result ≡ count_or_refusal (text_within (length out.old) (register_answer syntax reg_class reg_number)) }
+    ensures left { out.new ≡ with_text out.old (text_within (length out.old) (register_answer syntax reg_class reg_number)) }
+{
+    names::register_text(syntax, reg_class, reg_number, out)
+}
+
+/// Writes the name of the segment register of a prefix, 1 to 6 for ES, CS, SS, DS, FS and GS, with a terminating 0, and returns the length of the name, 2 or 3.
+///
+/// Refusals: `Syntax`, `Register` for any other number, `Room`, the first that applies; the buffer is then unchanged (Intel SDM volume 2, 2.1.1).
+#[unsafe(no_mangle)]
+pub extern "C" fn feddurzai_segment_text(syntax: u32, segment: u8, out: &mut [u8]) -> i32
+    ensures said { result ≡ count_or_refusal (text_within (length out.old) (segment_answer syntax segment)) }
+    ensures left { out.new ≡ with_text out.old (text_within (length out.old) (segment_answer syntax segment)) }
+{
+    names::segment_text(syntax, segment, out)
+}
+
+/// Writes the name of a CPUID feature, ASCII, with a terminating 0, and returns the length of the name, at most 10. The feature is given by its bit in the sets
+/// of features (Intel SDM volume 2, CPUID).
+///
+/// Refusals: `Name` if no feature has this bit, `Room`; the buffer is then unchanged.
+#[unsafe(no_mangle)]
+pub extern "C" fn feddurzai_feature_name(bit: u32, out: &mut [u8]) -> i32
+    ensures said { result ≡ count_or_refusal (text_within (length out.old) (feature_answer bit)) }
+    ensures left { out.new ≡ with_text out.old (text_within (length out.old) (feature_answer bit)) }
+{
+    effects::feature_name(bit, out)
 }

@@ -190,6 +190,7 @@ nothing_leads : (code : CodeBytes) (p q : ℕ) (e : DecodeError) → ReadingLead
 nothing_leads code p q TooShortError h = h
 nothing_leads code p q InvalidError h = h
 
+-- nothing follows an offset at which nothing is read
 pub no_exits_right : OneReadingFacts → (code : CodeBytes) (p : ℕ) (e : DecodeError) → IsReadIn code p (reading_of (Err e)) → AreExits code p no_exits
 no_exits_right one code p e reads =
     record {

@@ -17,6 +17,7 @@ pub record FollowsBack (marks : List ℕ) (offset : ℕ) : Type 0 where
   pub some : 0 < get_or marks (offset + 1 - get_or marks offset 0) 0
   pub by_mark : FollowsByMark marks (offset + 1 - get_or marks offset 0) offset
 
+-- a reached offset that continues a block has one before it
 pub follows_back : (marks : List ℕ) (offset : ℕ) → AreChained marks → 1 < get_or marks offset 0 → FollowsBack marks offset
 follows_back marks offset chained h =
     let back = chained offset h in
@@ -28,6 +29,7 @@ follows_back marks offset chained h =
       by_mark = subst (λ x. FollowsByMark marks x offset) e back.1;
     }
 
+-- an offset that continues a block has the leader of that block
 pub leader_carried_on : (marks leaders : List ℕ) (offset leader : ℕ) → AreChained marks →
     ((q : ℕ) → q < offset → 0 < get_or marks q 0 → LeaderByMarks marks (get_or leaders q 0) q) →
     1 < get_or marks offset 0 → leader ≡ get_or leaders (offset + 1 - get_or marks offset 0) 0 → LeaderByMarks marks leader offset
@@ -36,6 +38,7 @@ leader_carried_on marks leaders offset leader chained before h e =
     let p : ℕ = offset + 1 - get_or marks offset 0 in
     carried p offset back.by_mark (subst (λ x. LeaderByMarks marks x p) (sym e) (before p back.before back.some))
 
+-- an offset that begins a block is its own leader
 pub leader_is_itself : (marks : List ℕ) (offset : ℕ) → get_or marks offset 0 ≤ 1 → 0 < get_or marks offset 0 → LeaderByMarks marks offset offset
 leader_is_itself marks offset h some = itself (omega arith)
 

@@ -10,10 +10,12 @@ use Rattle.flow_graph.specs.Walks.{IsOrder}
 abbrev is_zero : ℕ → ℕ
 is_zero m = cond (eqb m 0) 1 0
 
+-- a choice by a number that is 0
 pub if_zero : {X : Type 0} (n : ℕ) (a b : X) → n ≡ 0 → (if n == 0 then a else b) ≡ a
 if_zero zero a b e = refl
 if_zero (suc n) a b e = absurd (omega arith)
 
+-- a choice by a number that is not 0
 pub if_some : {X : Type 0} (n : ℕ) (a b : X) → 0 < n → (if n == 0 then a else b) ≡ b
 if_some n a b h = ap (λ t. if t then a else b) (ne_eqb n 0 (λ e. omega arith))
 

@@ -15,6 +15,7 @@ use Rattle.flow_graph.specs.Walks.{IsTreated, IsWalk, Extends}
 use Rattle.flow_graph.proofs.OneReading.{reading_unique}
 use Rattle.flow_graph.specs.Told.{told_of, Tells, next_by_default, told_at, AreTold, MarkedAreTold, AreFlowsOf}
 
+-- what is listed beside each start
 abbrev pub Flows : Type 0
 Flows = List (Result Flow DecodeError)
 
@@ -84,6 +85,7 @@ told_end code entries marks order turn flows w done told =
 
 -- ---- beside the offsets
 
+-- at the start nothing is listed
 pub flows_start : (flows : Flows) (starts : List ℕ) (beside : Flows) → starts ≡ [] → beside ≡ [] → AreFlowsOf flows starts beside
 flows_start flows starts beside s b =
     subst (λ xs. AreFlowsOf flows xs beside) (sym s)

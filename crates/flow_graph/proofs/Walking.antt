@@ -220,9 +220,11 @@ extends_next marks order p exits =
     Next : Bool → Type 0
     Next b = Extends order (if b then order_after marks order (p + exits.next) else order)
 
+-- the order of visits grows by the next offset
 pub extends_without_target : (marks order : List ℕ) (p : ℕ) (exits : Exits) (order1 : List ℕ) → order1 ≡ next_order marks order p exits → Extends order order1
 extends_without_target marks order p exits order1 e = subst (Extends order) (sym e) (extends_next marks order p exits)
 
+-- and by the target of a branch
 pub extends_with_target : (marks order : List ℕ) (p : ℕ) (exits : Exits) (marks1 order1 order2 : List ℕ) (target : ℕ) →
     order1 ≡ next_order marks order p exits → order2 ≡ order_after marks1 order1 target → Extends order order2
 extends_with_target marks order p exits marks1 order1 order2 target first second =

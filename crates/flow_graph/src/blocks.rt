@@ -61,7 +61,7 @@ impl Blocks {
     }
 }
 
-/// Lists the marked offsets. The leader of a follower is known when its turn comes, since it stands behind the offset
+/// Lists the marked offsets. The leader of a follower is known when its turn comes, since it follows the offset
 /// that it follows.
 pub(crate) fn blocks_of(
     alloc: Global,

@@ -62,7 +62,7 @@ fn goes_to_target(flow: Flow) -> bool
     }
 }
 
-/// How far the target to which control may go stands behind the first byte.
+/// How far the target to which control may go follows the first byte.
 #[tactic(auto, unfolding(crate::specs::Exits::target_offset))]
 fn target_offset(bits: Bits, base: u64, flow: Flow, instr: &Instr) -> Option<u64>
     ensures { result ≡ spec.target_offset bits base flow instr.now }

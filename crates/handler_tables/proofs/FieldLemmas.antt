@@ -29,6 +29,7 @@ size_number-lt B16 = lit< tt
 size_number-lt B32 = lit< tt
 size_number-lt B64 = lit< tt
 
+-- what a node splits by is below its number of values
 pub field_at-lt : (bits : Bits) (s : Split) (f : Fields) → f.opcode < 256 → field_at bits s f < width_of s
 field_at-lt bits split.Kind f lt = map_number-lt f.vex f.map
 field_at-lt bits split.Opcode f lt = lt

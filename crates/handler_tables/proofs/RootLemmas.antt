@@ -27,6 +27,7 @@ pub record AtRoot (bits : Bits) (f : Fields) (o : Option Next) : Type 0 where
   pub right : entry_ok (ok 10 bits) (under o f.opcode) left ≡ true
   pub same : alive left (values bits f) ≡ codes_holding bits 0 table f
 
+-- each root is a node of eight entries
 pub root-in : (m : Option ℕ) → root_of m < length nodes8
 unfolding nodes8
 root-in None = lit< tt
@@ -77,6 +78,7 @@ chosen bits f with without cs h same (Some x) e o p q =
       same = ap (λ v. alive (keep 0 v cs) (values bits f)) (sym (present-at bits f x e)) ∙ alive-keep 0 cs (values bits f) ∙ same;
     })
 
+-- the walk starts at the root for the fields
 pub start : (bits : Bits) (f : Fields) → f.opcode < 256
     → AtRoot bits f (root_entry (root_of f.modrm) (map_number f.vex f.map))
 unfolding tables_ok kind_ok

@@ -15,6 +15,7 @@ use Rattle.handler_tables.specs.Splits.{width_of}
 
 -- ---- the node behind an entry, below the opcode byte
 
+-- an entry leads to a node below the opcode byte
 abbrev pub is_inner : Next → Bool
 is_inner (N2 i) = true
 is_inner (N3 i) = true
@@ -22,6 +23,7 @@ is_inner (N4 i) = true
 is_inner (N8 i) = true
 is_inner _ = false
 
+-- the number of entries of the node that an entry leads to
 abbrev pub node_width : Next → ℕ
 node_width (N2 i) = 2
 node_width (N3 i) = 3
@@ -29,6 +31,7 @@ node_width (N4 i) = 4
 node_width (N8 i) = 8
 node_width _ = 0
 
+-- what that node splits by
 abbrev pub split_at : Next → Option Split
 split_at (N2 i) = slice_get splits2 i
 split_at (N3 i) = slice_get splits3 i
@@ -36,6 +39,7 @@ split_at (N4 i) = slice_get splits4 i
 split_at (N8 i) = slice_get splits8 i
 split_at _ = None
 
+-- the entries of that node
 abbrev pub entries_at : Next → Option (List Next)
 entries_at (N2 i) = slice_get nodes2 i
 entries_at (N3 i) = slice_get nodes3 i
@@ -59,6 +63,7 @@ mask_of split.W = Some 6
 mask_of split.L = Some 7
 mask_of split.RexB = Some 8
 
+-- a node splits by the mode
 unfoldable pub is_mode_split : Split → Bool
 is_mode_split split.Mode = true
 is_mode_split _ = false
@@ -81,6 +86,7 @@ split_ok go bits (Some k) m es cs = each_ok go k 0 es cs
 split_ok go bits None false es cs = false
 split_ok go bits None true es cs = entry_ok go (slice_get es (size_number bits)) cs
 
+-- a node is right: each of its entries is right for the candidates that remain there
 unfoldable pub node_ok : (Next → List Cand → Bool) → Bits → ℕ → Option Split → Option (List Next) → List Cand → Bool
 unfolding split_ok mask_of is_mode_split
 node_ok go bits width None _ cs = false
@@ -98,6 +104,7 @@ ok (suc n) bits e cs = node_ok (ok n bits) bits (node_width e) (split_at e) (ent
 
 -- ---- the roots
 
+-- the entry of a node that is there
 unfoldable pub get_in : Option (List Next) → ℕ → Option Next
 get_in None n = None
 get_in (Some es) n = slice_get es n
@@ -114,12 +121,14 @@ unfoldable pub both_ok : Bits → Option Next → Option Next → List Cand → 
 unfolding entry_ok ok keep
 both_ok bits with without cs = entry_ok (ok 10 bits) with (keep 0 1 cs) && entry_ok (ok 10 bits) without (keep 0 0 cs)
 
+-- both entries of an opcode byte are right for the rows there
 unfoldable pub cell_ok : ℕ → Option Next → Option Next → List Coded → Bool
 unfolding both_ok cands
 cell_ok op with without cell =
     both_ok B16 with without (cands B16 op cell)
     && (both_ok B32 with without (cands B32 op cell) && both_ok B64 with without (cands B64 op cell))
 
+-- both entries of a kind and map are right for the rows there
 unfoldable pub kind_ok : Option Next → Option Next → List Coded → Bool
 unfolding below cell_ok under at_opcode
 kind_ok with without rows = below 256 (λ op. cell_ok op (under with op) (under without op) (at_opcode op rows))

@@ -57,7 +57,7 @@ pub struct Spelling {
 /// What the bytes up to and with the opcode byte say: the front of an instruction (2.1.1, 2.2.1, 2.3.5).
 #[derive(Clone, Copy, PartialEq, Eq, Debug)]
 pub struct PrefixState {
-    /// How many bytes stand before the opcode byte: prefixes, and a VEX or escape bytes.
+    /// How many bytes precede the opcode byte: prefixes, and a VEX or escape bytes.
     pub used: u8,
     /// Whether 66 occurs.
     pub size66: bool,

@@ -13,7 +13,7 @@ use crate::generated_operands::OPERANDS;
 use opcode_rows::ROWS;
 use x86_values::{Bits, Code, Register};
 
-/// What an Intel text shows of an operand, as far as rows are told apart by it.
+/// What an Intel text shows of an operand, as far as it tells rows apart.
 #[derive(Clone, Copy)]
 pub enum OperandClass {
     /// There is no such operand.

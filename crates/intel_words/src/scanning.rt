@@ -49,7 +49,7 @@ fn token_len(text: &[u8]) -> usize
     text.len()
 }
 
-/// The word at the front, and what stands behind it.
+/// The word at the front, and what follows it.
 #[inline]
 pub fn split_word(text: &[u8]) -> (&[u8], &[u8])
     ensures word { result.0.now ≡ spec.word text.now }
@@ -66,7 +66,7 @@ pub fn word(text: &[u8]) -> &[u8]
     split_word(text).0
 }
 
-/// What stands behind the word at the front.
+/// What follows the word at the front.
 #[inline]
 pub fn behind(text: &[u8]) -> &[u8]
     ensures { result.now ≡ spec.rest_behind text.now }
@@ -108,7 +108,7 @@ pub fn split_operand(text: &[u8]) -> (&[u8], &[u8])
     (token, rest(rest(behind)))
 }
 
-/// What stands behind a word and the byte that ends it, where the word is passed.
+/// What follows a word and the byte that ends it, where the word is passed.
 #[inline]
 #[tactic(auto, unfolding(crate::specs::Scanning::skip_if))]
 pub fn skip_if(passed: bool, text: &[u8]) -> &[u8]

@@ -86,7 +86,7 @@ pub enum Inside {
 /// A base, an index and a displacement, at least one of the registers being there.
 #[derive(Clone, Copy, PartialEq, Eq, Debug)]
 pub struct SumText {
-    /// A register without a scale that stands first.
+    /// A register without a scale that comes first.
     pub base: Option<Register>,
     /// The register with a scale, or the second one.
     pub index: Option<Register>,

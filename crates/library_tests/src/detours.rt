@@ -1,4 +1,4 @@
-//! Detours and hooks worked out by hand, from the Intel manual's notation of JMP, CALL, Jcc and LOOP.
+//! Detours and hooks worked out from the Intel manual's notation of JMP, CALL, Jcc and LOOP.
 
 mod compare;
 mod hook_tests;

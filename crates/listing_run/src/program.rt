@@ -168,7 +168,7 @@ fn answer<S: Source, K: Sink>(
 /// For every mode, every address and all bytes:
 ///
 /// - The listing shows exactly the instructions that the table spells, with their lengths, and single bytes elsewhere: `answer` says so by
-///   `WritesLines`, over the sweep of the bytes that were read, and `complete` that nothing but want of memory or a stated limit hinders it.
+///   `WritesLines`, over the sweep of the bytes that were read, and `complete` that nothing but lack of memory or a stated limit hinders it.
 /// - `recode` shows the plain spelling of each instruction that has one, and names why another has none: `answer`, by the same lines.
 /// - `flow` shows exactly the offsets that control reaches from the first byte, each with the leader of its basic block: `answer` by `FlowsAs`, over
 ///   `IsFlowGraph`, and `complete` by `CompletesFlow`.
@@ -176,9 +176,10 @@ fn answer<S: Source, K: Sink>(
 ///   `IsCodeOfLines`, and `complete` by `CompletesAssembling`.
 /// - `slots` gives each instruction a slot with exactly its block, and every other byte of the range is CC: `answer` says so by `SlotsAs`, over `AreSlotted`
 ///   and `HoldsSlots`. `complete` says by `CompletesSlots` that an instruction is refused only where no gap is left or it does not reach its target.
-/// - Moved blocks decode to the images of the old instructions in the least layout, each target moved along or kept: `answer` says by `MovesAs` that the
-///   blocks `IsMoved`, and `moved_code_is_read_as_images` that such blocks so decode. They are refused only at the first operand that does not reach or
-///   for a stated limit: `answer` says when each refusal may come, and `complete` by `CompletesMoving` that it comes then.
+/// - Moved blocks decode to the images of the old instructions in the least layout, and each image goes to the old target or to its moved copy: `answer`
+///   says by `MovesAs` that the blocks are moved (`IsMoved`), that they decode so (`IsMovedReadBack`), and where each image goes (`GoesToGoal`). Moving is
+///   refused only at the first operand that does not reach, or for a stated limit: `answer` says when each refusal may come, and `complete` by
+///   `CompletesMoving` that it comes then.
 ///
 /// `words` are those behind the program's name. `list BITS BASE SYNTAX` reads `source` to its end and writes the listing to `out`, where `BITS` is
 /// `16`, `32` or `64`, `BASE` the address of the first byte in 1 to 16 hexadecimal digits, below 2 to the power of `BITS`, and `SYNTAX` is `intel`,
@@ -205,7 +206,7 @@ fn answer<S: Source, K: Sink>(
 /// `RegionFull` where no gap has its length, else `TooFar`.
 ///
 /// `sample N` makes 1 to 65,536 instructions, `N` in hexadecimal, lists them at 400000 and moves them to 10400000 in 64-bit mode, and writes six numbers of what
-/// came of it: `answer` says by `SamplesAs` that they are so by definition, and that nothing but want of memory hinders it. It reads nothing.
+/// came of it: `answer` says by `SamplesAs` that they are so by definition, and that nothing but lack of memory hinders it. It reads nothing.
 ///
 /// `rows` writes a line for each row of the table of instructions, and `--help` and `--version` write a text; they read nothing and take no memory.
 /// Each status other than `Done` has a line that is written to `err`.

@@ -1,4 +1,4 @@
-//! The command that shows the library at work on made code: it is listed and moved, and what comes of it is told in six numbers.
+//! The command that shows the library at work on made code: it is listed and moved, and what comes of it is stated in six numbers.
 
 mod generator;
 pub mod laws;

@@ -62,6 +62,7 @@ pub record Opened (bits : Bits) (bytes : List ℕ) (state : PrefixState) : Type 
   pub bytes_are : are_bytes bytes ≡ true
   pub front : long_front bits bytes ≡ Known state
 
+-- bytes whose front is known are the prefixes, the lead bytes, the opcode byte and a rest
 pub opened : (bits : Bits) (bytes : List ℕ) (state : PrefixState) → are_bytes bytes ≡ true → front_of bits bytes ≡ Known state → Opened bits bytes state
 opened bits bytes state r h =
     let f = front_known bits bytes state h in
@@ -236,19 +237,23 @@ answer_of_row bits ip code row bytes state behind r rb h front e a =
     answered bits ip code row bytes state o r h (front_known bits bytes state front).1
     (subst (λ (x : Result Decoded TailError). Tells bits ip state code row o.parted.rest x) same t)
 
+-- an instruction that is read is one that the row reads
 pub answered_ok : (bits : Bits) (ip : ℕ) (code : Code) (row : Row) (bytes : List ℕ) (r : Result Decoded TailError) → Answered bits ip code row bytes r → IfOk r (λ d. RowReads bits ip code row bytes d)
 answered_ok bits ip code row bytes (Ok d) a = a.0
 answered_ok bits ip code row bytes (Err e) a = tt
 
+-- its length is above 0, below 64, and within the bytes
 pub answered_len : (bits : Bits) (ip : ℕ) (code : Code) (row : Row) (bytes : List ℕ) (r : Result Decoded TailError) → Answered bits ip code row bytes r → IfOk r (λ d. (0 < d.len) × (d.len < 64) × (d.len ≤ length bytes))
 answered_len bits ip code row bytes (Ok d) a = (a.1.some_bytes, a.1.small, a.1.within)
 answered_len bits ip code row bytes (Err e) a = tt
 
+-- after Ended the row reads nothing, and more bytes make an instruction of it
 pub answered_ended : (bits : Bits) (ip : ℕ) (code : Code) (row : Row) (bytes : List ℕ) (r : Result Decoded TailError) → Answered bits ip code row bytes r → r ≡ Err Ended → RowReadsNothing bits row bytes × RowCanGoOn bits row bytes
 answered_ended bits ip code row bytes (Ok d) a e = cc
 answered_ended bits ip code row bytes (Err Ended) a e = a
 answered_ended bits ip code row bytes (Err Forbidden) a e = cc
 
+-- after Forbidden the row reads nothing, whatever follows
 pub answered_forbidden : (bits : Bits) (ip : ℕ) (code : Code) (row : Row) (bytes : List ℕ) (r : Result Decoded TailError) → Answered bits ip code row bytes r → r ≡ Err Forbidden → RowReadsNothing bits row bytes × (RowCanGoOn bits row bytes → ⊥)
 answered_forbidden bits ip code row bytes (Ok d) a e = cc
 answered_forbidden bits ip code row bytes (Err Ended) a e = cc

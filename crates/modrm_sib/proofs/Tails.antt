@@ -23,6 +23,7 @@ use Rattle.row_fit.proofs.TailLaws.{cancel_front}
 use Rattle.modrm_sib.specs.Parts.{takes_sib, displacement_len, lead_fits, parts_fit}
 use Rattle.row_fit.specs.FrontParts.{LeadIsProper, Parted}
 
+-- two tests that hold hold together
 pub both : (a b : Bool) → a ≡ true → b ≡ true → (a && b) ≡ true
 both true b ha hb = hb
 both false b ha hb = ha
@@ -304,16 +305,19 @@ tail_from bits row state m sib d i t =
 
 -- ---- bytes
 
+-- the first of two joined lists of bytes is a list of bytes
 pub are_bytes-left : (xs ys : List ℕ) → are_bytes (xs ++ ys) ≡ true → are_bytes xs ≡ true
 are_bytes-left [] ys h = refl
 are_bytes-left (x ∷ xs) ys h =
     both (nat_lt x 256) (are_bytes xs) (and_parts (nat_lt x 256) (are_bytes (xs ++ ys)) h).0
     (are_bytes-left xs ys (and_parts (nat_lt x 256) (are_bytes (xs ++ ys)) h).1)
 
+-- so is the second
 pub are_bytes-right : (xs ys : List ℕ) → are_bytes (xs ++ ys) ≡ true → are_bytes ys ≡ true
 are_bytes-right [] ys h = h
 are_bytes-right (x ∷ xs) ys h = are_bytes-right xs ys (and_parts (nat_lt x 256) (are_bytes (xs ++ ys)) h).1
 
+-- two lists of bytes joined are one
 pub are_bytes-both : (xs ys : List ℕ) → are_bytes xs ≡ true → are_bytes ys ≡ true → are_bytes (xs ++ ys) ≡ true
 are_bytes-both [] ys hx hy = hy
 are_bytes-both (x ∷ xs) ys hx hy =
@@ -326,6 +330,7 @@ pub record PartBytes (prefixes : List ℕ) (opcode : ℕ) (rest : List ℕ) : Ty
   pub opcode_is : nat_lt opcode 256 ≡ true
   pub rest_are : are_bytes rest ≡ true
 
+-- the parts of a list of bytes are lists of bytes
 pub part_bytes : (prefixes lead : List ℕ) (opcode : ℕ) (rest bytes : List ℕ) → are_bytes bytes ≡ true → bytes ≡ prefixes ++ (lead ++ (opcode ∷ rest)) → PartBytes prefixes opcode rest
 part_bytes prefixes lead opcode rest bytes h e =
     let k = subst (λ (x : List ℕ). are_bytes x ≡ true) e h in

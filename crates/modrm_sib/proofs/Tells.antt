@@ -61,6 +61,7 @@ pub record GoesOn (bits : Bits) (row : Row) (state : PrefixState) (rest : List �
   pub some_more : 0 < length more
   pub bytes_are : modrm_bytes modrm ++ (sib_bytes sib ++ (disp ++ imm)) ≡ rest ++ more
 
+-- what an answer says of the bytes behind the opcode byte
 abbrev pub Tells : Bits → ℕ → PrefixState → Code → Row → List ℕ → Result Decoded TailError → Type 0
 Tells bits ip state code row rest (Ok d) = ReadTail bits ip state code row rest d
 Tells bits ip state code row rest (Err Ended) = NoTail bits row state rest × GoesOn bits row state rest
@@ -347,6 +348,7 @@ modrm-range b h =
     both (nat_lt (b / 64) 4) _ (lt-ltb (b / 64) 4 (omega arith))
     (both (nat_lt (b / 8 % 8) 8) _ (lt-ltb (b / 8 % 8) 8 (omega arith)) (lt-ltb (b % 8) 8 (omega arith)))
 
+-- the fields of a SIB byte are in range
 pub sib-range : (b : ℕ) → b < 256 → sib_in_range (Some (sib_of_byte b)) ≡ true
 unfolding sib_of_byte sib_in_range
 sib-range b h =

@@ -23,6 +23,7 @@ bytes-parted bits ip row i = refl
 followed : (front tail rest : List ℕ) (o : ℕ) (whole : List ℕ) → whole ≡ front ++ (o ∷ tail) → front ++ (o ∷ (tail ++ rest)) ≡ whole ++ rest
 followed front tail rest o whole e = rw e (sym (append_assoc front (o ∷ tail) rest))
 
+-- the tail that is written for an instruction is read as that instruction
 pub written_tail : (bits : Bits) (ip : ℕ) (row : Row) (i : Instr) (rest : List ℕ) → Sound row → Writable bits row → Suits bits ip row i → length i.ops ≡ 4
     → RowReads bits ip i.code row (front_written row (plain_front_of bits row i) ++ ((plain_tail bits ip row i).opcode ∷ (tail_bytes (plain_tail bits ip row i) ++ rest)))
     (record { instr = i; len = length (bytes_of row (plain_spelling bits ip row i)) })

@@ -8,7 +8,7 @@ use instruction_parts::row_types::Row;
 use instruction_parts::{ModRm, PrefixState, Sib};
 use x86_values::Bits;
 
-/// Whether some SIB can stand behind this ModRM. Of a SIB only the index decides.
+/// Whether some SIB can follow this ModRM. Of a SIB only the index decides.
 #[cold]
 #[inline(never)]
 #[tactic(auto, unfolding(crate::specs::Parts::some_sib_fits))]
@@ -25,7 +25,7 @@ pub(crate) fn some_sib_fits(bits: Bits, row: &Row, state: &PrefixState, m: ModRm
     })
 }
 
-/// Whether the ModRM can stand behind the state, with some SIB where it takes one.
+/// Whether the ModRM can follow the state, with some SIB where it takes one.
 #[tactic(auto, unfolding(crate::specs::Parts::modrm_can_fit))]
 fn modrm_can_fit(bits: Bits, row: &Row, state: &PrefixState, m: ModRm) -> bool
     ensures { result ≡ spec.modrm_can_fit bits row.now state.now m }

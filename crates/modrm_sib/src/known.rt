@@ -130,7 +130,7 @@ fn parts_into<'a>(
     }
 }
 
-/// What stands behind the opcode byte of an instruction of at most 15 bytes; None where none does. The instruction is written to `out`.
+/// What follows the opcode byte of an instruction of at most 15 bytes; None where none does. The instruction is written to `out`.
 // The parts are put where they are to stand: in a struct that is handed on they would be packed into one another.
 #[inline(always)]
 #[tactic(auto, unfolding(crate::specs::Answer::rest_answer, crate::specs::Answer::fitting_answer))]

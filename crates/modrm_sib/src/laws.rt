@@ -1,4 +1,4 @@
-//! Laws of what stands behind the opcode byte, as the contracts of functions that do nothing.
+//! Laws of what follows the opcode byte, as the contracts of functions that do nothing.
 
 ghost use Rattle.std.specs.Prelude.{◌≡◌, ℕ, List, ◌∷◌, ◌++◌, length};
 ghost use Rattle.x86_values.specs.declared.Bits.{Bits};

@@ -1,4 +1,4 @@
-//! What stands behind the opcode byte, read: ModRM, SIB, displacement and immediates
+//! What follows the opcode byte, read: ModRM, SIB, displacement and immediates
 //! (Intel SDM volume 2, 2.1.3 to 2.1.5).
 #![tactic(auto)]
 
@@ -75,7 +75,7 @@ pub const UNREAD: Decoded = Decoded {
     len: 0,
 };
 
-/// Reads the tail of a row as [`read_row`] does, and writes the instruction to `out`. After an error nothing is said of what stands there.
+/// Reads the tail of a row as [`read_row`] does, and writes the instruction to `out`. After an error `out` holds no instruction.
 #[inline(always)]
 pub fn read_row_into(
     bits: Bits,
@@ -100,8 +100,8 @@ pub fn read_row_into(
 }
 
 /// Reads the tail of a row as [`read_row_into`] does, where the row is known to take the state with the ModRM that stands there, and at most one
-/// of its operands has bytes of the immediates. Answers None where the bytes begin with no instruction of the row of at most 15 bytes; then nothing is
-/// said of what stands in `out`.
+/// of its operands has bytes of the immediates. Returns None if the bytes do not begin with an
+/// instruction of the row of at most 15 bytes; then the contents of `out` are unspecified.
 ///
 /// `size` is the operand size of the row under the prefixes, and `immediates` the bytes of its immediates.
 #[inline(always)]

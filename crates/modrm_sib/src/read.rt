@@ -117,7 +117,7 @@ pub(crate) fn has_modrm(row: &Row) -> bool
     }
 }
 
-/// ModRM and SIB of a tail, and what stands behind them.
+/// ModRM and SIB of a tail, and what follows them.
 #[derive(Clone, Copy)]
 pub(crate) struct Head<'a> {
     modrm: Option<ModRm>,
@@ -187,7 +187,7 @@ fn head_of<'a>(
     }
 }
 
-/// What stands behind the opcode byte: ModRM, the SIB where it takes one, and the rest.
+/// What follows the opcode byte: ModRM, the SIB where it takes one, and the rest.
 #[inline(always)]
 pub(crate) fn read_tail(
     bits: Bits,

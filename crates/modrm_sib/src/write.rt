@@ -1,4 +1,4 @@
-//! What stands behind the opcode byte, written.
+//! What follows the opcode byte, written.
 
 ghost use Rattle.std.specs.Prelude.{◌≡◌, IsTrue, IfOk, IfErr, Some, None};
 ghost use Rattle.row_fit.specs.Sound.{sound};

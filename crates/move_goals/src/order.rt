@@ -54,7 +54,7 @@ pub fn passes(bits: Bits, end: u128) -> bool
     end > 1 << width
 }
 
-/// The address behind the last item of a block, of which `start` is the first; the new base of an empty one.
+/// The address behind the last item of a block, whose first item has the number `start`; the new base if the block is empty.
 fn block_old_end(items: &[Placed], span: &BlockSpan, start: usize) -> u128
     requires { start + span.now.count ≤ length items.now }
     ensures { result ≡ (if span.now.count == 0 then span.now.new_base else spec.old_end (spec.item_at items.now (start + span.now.count - 1))) }

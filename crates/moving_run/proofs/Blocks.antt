@@ -82,6 +82,7 @@ pub record BlocksBegun (bits : Bits) (words : List BlockWords) (bytes : List ℕ
   pub few : count + length rest ≤ length bytes
   pub room : length kept ≤ 65536
 
+-- before the first block nothing is kept
 pub blocks-start : (bits : Bits) (words : List BlockWords) (bytes : List ℕ) (kept : List Placed) (spans : List BlockSpan) → kept ≡ [] → spans ≡ [] →
     BlocksBegun bits words bytes words bytes kept spans 0
 blocks-start bits words bytes kept spans no_kept no_spans =

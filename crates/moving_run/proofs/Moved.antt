@@ -85,6 +85,7 @@ starts_length bits words bytes placed m h =
     let items = all_placed words h.items in
     ap length h.is_moved.lists.starts ∙ (length-map-range_with_len _ 0 (length items) ∙ ap length (sym h.placed_is))
 
+-- there is a form for each instruction
 pub forms_length : (bits : Bits) (words : List BlockWords) (bytes : List ℕ) (placed : List Placed) (m : MovedLists) → MovesInput bits words bytes placed m →
     length m.forms ≡ length placed
 forms_length bits words bytes placed m h =

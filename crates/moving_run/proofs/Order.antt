@@ -49,6 +49,7 @@ one_is bits base offset at bytes (Read d) place reads some e =
 one_is bits base offset at bytes TooShort place reads some e = absurd (cc)
 one_is bits base offset at bytes Invalid place reads some e = absurd (cc)
 
+-- an instruction of a sweep begins where the one before it ended
 pub item_one : (bits : Bits) (base offset : ℕ) (bytes : List ℕ) (item : Item) → IsItemAt bits base offset bytes item → IsInstruction item →
     IsOne bits base offset item.offset item.reading
 item_one bits base offset bytes item is_at e = one_is bits base offset item.offset bytes item.reading is_at.offset_is is_at.reads is_at.some e
@@ -60,6 +61,7 @@ first_one bits base offset item items one = ap (λ (xs : List Placed). xs ++ pla
 
 -- ---- the instructions of a block
 
+-- the instructions of a block are well placed
 pub block_placed : (bits : Bits) (base offset : ℕ) (bytes : List ℕ) (items : List Item) (rest : List ℕ) → Sweeps bits base offset bytes items rest →
     All IsInstruction items → All (IsPlaced bits) (placed_in base items)
 block_placed bits base offset bytes [] rest sweeps all = All-nil (IsPlaced bits)

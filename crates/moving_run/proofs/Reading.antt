@@ -18,18 +18,22 @@ use Rattle.moving_run.specs.Read.{first_items, ReadsBlock}
 
 -- ---- the first items
 
+-- up to 65,536 items are all kept
 pub first_items-few : (items : List Placed) → length items ≤ 65536 → first_items items ≡ items
 unfolding first_items
 first_items-few items few = take_all 65536 items few
 
+-- of no items none is kept
 pub first_items-nil : first_items [] ≡ []
 unfolding first_items
 first_items-nil = refl
 
+-- at most 65,536 items are kept
 pub first_items-length : (items : List Placed) → length (first_items items) ≤ 65536
 unfolding first_items
 first_items-length items = omega (arith, length-take 65536 items)
 
+-- once 65,536 items are kept, further ones are dropped
 pub first_items-full : (items more : List Placed) → 65536 ≤ length items → first_items (items ++ more) ≡ first_items items
 unfolding first_items
 first_items-full items more full = take-append-le 65536 items more full
@@ -47,6 +51,7 @@ first_items-append items more =
 
 -- ---- the instructions of a block
 
+-- the placed items of two lists joined
 pub placed_in-append : (base : ℕ) (xs ys : List Item) → placed_in base (xs ++ ys) ≡ placed_in base xs ++ placed_in base ys
 placed_in-append base [] ys = refl
 placed_in-append base (x ∷ xs) ys =

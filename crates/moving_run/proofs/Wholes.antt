@@ -81,6 +81,7 @@ counts_are bits (w ∷ ws) bytes (x ∷ items) swept =
       placed_length w.old x swept.1,
     )
 
+-- there is a span for each block
 pub spans_length : (bits : Bits) (words : List BlockWords) (bytes : List ℕ) (items : List (List Item)) → AreSwept bits words bytes items →
     length (all_spans words items) ≡ length words
 spans_length bits [] bytes [] swept = refl
@@ -88,6 +89,7 @@ spans_length bits [] bytes (x ∷ items) swept = absurd swept
 spans_length bits (w ∷ ws) bytes [] swept = absurd swept
 spans_length bits (w ∷ ws) bytes (x ∷ items) swept = ap suc (spans_length bits ws (left_by w.len bytes) items swept.2)
 
+-- the spans are those of the placed items
 pub spans_of : (bits : Bits) (words : List BlockWords) (bytes : List ℕ) (items : List (List Item)) → AreSwept bits words bytes items →
     length words ≤ 16 → AreSpansOf (all_placed words items) (all_spans words items)
 spans_of bits words bytes items swept few = record {

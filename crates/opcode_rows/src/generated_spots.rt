@@ -10,7 +10,7 @@ macro_rules! spots {
 /// How many rows the table has.
 pub const ROWS: u16 = 2083;
 
-/// How many of them are rows of version 1. They have the codes below it, and the rows of version 2 stand behind them.
+/// How many of them are rows of version 1. They have the codes below it, and the rows of version 2 follow them.
 pub const VERSION1_ROWS: u16 = 1969;
 
 /// How many rows version 2 adds.

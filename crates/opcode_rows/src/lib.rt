@@ -1,7 +1,7 @@
 //! The opcode table: the rows of all crates in one order, by code and by cell (Intel SDM volume 2, appendix A).
 //!
 //! It grows at its end alone. The rows of version 1 have the codes below `VERSION1_ROWS`, and those of version 2 (FMA, F16C, AES, PCLMULQDQ)
-//! stand behind them; `laws` says that nothing else changed with them.
+//! follow them; `laws` says that nothing else changed with them.
 #![tactic(auto)]
 
 mod by_name;

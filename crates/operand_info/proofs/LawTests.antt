@@ -91,6 +91,7 @@ test_holds code (suc (suc zero)) row at lt = (and_parts (test_at code row 2) (te
 test_holds code (suc (suc (suc zero))) row at lt = (and_parts (test_at code row 2) (test_at code row 3) (tested-2 code row at)).1
 test_holds code (suc (suc (suc (suc n)))) row at lt = absurd (omega arith)
 
+-- a constant operand is read
 pub constant-read : (code n : ℕ) (row : Row) → slice_get table code ≡ Some row → n < 4 → IsTrue (is_constant (method_of (kind_at row n))) → access_of code n ≡ Read
 constant-read code n row at lt constant = read-of_test row n (access_of code n) (test_holds code n row at lt) constant
 
@@ -113,6 +114,7 @@ targets_stand : all_lines target_stands columns table ≡ true
 unfolding all_lines target_stands has_direct_target goes_to_operand has_operand columns table rows_in spots integer_rows integer_flat x87_rows x87_flat sse_rows sse_flat vex_rows vex_flat
 targets_stand = refl
 
+-- a row has a direct target exactly if its flow goes to an operand
 pub target-of_flow : (code : ℕ) (row : Row) → slice_get table code ≡ Some row → has_direct_target row ≡ goes_to_operand (flow_of code) row
 unfolding target_stands
 target-of_flow code row at =

@@ -93,6 +93,7 @@ some_row (row ∷ rows) (suc code) lt = some_row rows code (omega arith)
 table-known : (code : ℕ) → code < ROWS → (row : Row) × (slice_get table code ≡ Some row)
 table-known code lt = some_row table code (omega (arith, lt, length-table))
 
+-- the stored columns of a code are those of its row
 pub line-known : (code : ℕ) (line : Columns) → code < ROWS → slice_get columns code ≡ Some line → line ≡ line_of_code code
 line-known code line lt here =
     let t = table-known code lt in

@@ -24,6 +24,7 @@ use Rattle.plain_spelling.specs.declared.addresses.AddressForm.{AddressForm}
 use Rattle.plain_spelling.specs.declared.addresses.AddressForm.TheVariants.{Relative, Alone, Short, Wide}
 use Rattle.plain_spelling.specs.Addresses.{form_of, is_shape, is_wide_shape, rm_of_short, displacement_count, wide_offers, short_offers, form_offers}
 
+-- an address has the shape of its form
 abbrev pub shape_at : Bits → Mem → AddressForm → Bool
 shape_at bits m form =
     elim form [
@@ -33,10 +34,12 @@ shape_at bits m form =
       | Wide ↦ is_wide_shape bits m
     ]
 
+-- an address that has a shape has that of its form
 pub shape_is : (bits : Bits) (m : Mem) (form : AddressForm) → form_of m.base m.index ≡ form → is_shape bits m ≡ true → shape_at bits m form ≡ true
 unfolding is_shape
 shape_is bits m form e h = subst (λ (x : AddressForm). shape_at bits m x ≡ true) e h
 
+-- a form offers a number of displacement bytes
 abbrev pub offers_at : Bits → Mem → ℕ → AddressForm → Bool
 offers_at asize m n form =
     elim form [
@@ -46,10 +49,12 @@ offers_at asize m n form =
       | Wide ↦ wide_offers m.base n
     ]
 
+-- what an address is offered its form offers
 pub offers_is : (asize : Bits) (m : Mem) (n : ℕ) (form : AddressForm) → form_of m.base m.index ≡ form → form_offers asize m n ≡ true → offers_at asize m n form ≡ true
 unfolding form_offers
 offers_is asize m n form e h = subst (λ (x : AddressForm). offers_at asize m n x ≡ true) e h
 
+-- the displacement is a value of its form
 abbrev pub value_at : Bits → Mem → AddressForm → Bool
 value_at asize m form =
     elim form [ Relative size ↦ nat_lt m.disp (2 ^ width size) | _ ↦ is_extended_of (displacement_count m.disp_size) (width asize) m.disp ]
@@ -72,6 +77,7 @@ memory_there i (suc (suc (suc (suc n)))) h e = absurd (omega arith)
 abbrev pub IsVectorFile : File → Type 0
 IsVectorFile file = (file ≡ XmmFile) ⊎ (file ≡ VectorFile)
 
+-- a gather's index is of a vector file
 pub gather_file : (kind : OpKind) → method_of kind ≡ method.Gather → IsVectorFile (file_of kind)
 unfolding method_of file_of
 gather_file GatherX h = inl refl

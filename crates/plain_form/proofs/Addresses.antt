@@ -29,6 +29,7 @@ use Rattle.plain_form.proofs.NeedReadShapes.{Reading, named, extended_low, with_
 
 -- ---- the fields as they are
 
+-- the fields of an address: mod, r/m and SIB
 abbrev pub fields : ℕ → ℕ → Option Sib → AddressFields
 fields mode3 rm sib = record { mode3 = mode3; rm = rm; sib = sib }
 
@@ -187,6 +188,7 @@ names_index st s = not (with_high_bit (bit_x st) s.index == 4)
 abbrev pub sib_needed : Bits → ModRm → Sib → Bool → Bool
 sib_needed bits m s index = index || (s.base == 4 || ((m.mode3 == 0 && s.base == 5) && is_64 bits))
 
+-- a scale is needed only with an index
 abbrev pub scale_needed : Sib → Bool → Bool
 scale_needed s index = index || s.scale == 0
 
@@ -305,6 +307,7 @@ eq_test n k h = subst (λ (x : ℕ). (n == x) ≡ true) h (same n)
 index_low : (asize : Bits) (b : Bool) (n : ℕ) → n < 8 → register_number (general_register asize (with_high_bit b n)) % 8 ≡ n
 index_low asize b n h = ap (λ (x : ℕ). x % 8) (number_of_general asize (with_high_bit b n)) ∙ extended_low b n h
 
+-- what a read address with a SIB needs is its SIB
 pub sib_is : (bits asize : Bits) (st : PrefixState) (m : ModRm) (s : Sib) (d : List ℕ) → is_16 asize ≡ false → Reading bits asize st m (Some s) d → SibIs bits asize m s (names_index st s) (memory_with_sib bits asize st (sib_index asize st s) m s d)
 sib_is bits asize st m s d w g =
     let small = sib_small s g.sib_range in
@@ -350,6 +353,7 @@ unfolding register_of register_number
 file_number bits row st file n (inl e) = rw e refl
 file_number bits row st file n (inr e) = rw e (vector_number row.l n)
 
+-- what a read gather needs is its SIB
 pub gather_is : (bits asize : Bits) (row : Row) (st : PrefixState) (file : File) (m : ModRm) (s : Sib) (d : List ℕ) → is_16 asize ≡ false → IsVectorFile file → Reading bits asize st m (Some s) d
     → address_fields bits asize (memory_with_sib bits asize st (Some (register_of bits row st file (index_number st (Some s)))) m s d) ≡ fields m.mode3 m.rm (Some s)
 unfolding index_number

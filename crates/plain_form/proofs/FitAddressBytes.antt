@@ -56,6 +56,7 @@ size_given bits row i (Some a) e h =
       },
     )
 
+-- an instruction with a memory operand has one address size
 pub size_of : (bits : Bits) (row : Row) (i : Instr) → address_size_suits bits row i ≡ true → has_memory_operand i ≡ true → (a : Bits) × SizeIs bits row i a
 unfolding address_size_suits
 size_of bits row i h e =
@@ -118,6 +119,7 @@ written_at asize next m Alone e below h r = written_value asize next m Alone e (
 written_at asize next m (Short n) e below h r = written_value asize next m (Short n) e (λ size k. cc) h
 written_at asize next m Wide e below h r = written_value asize next m Wide e (λ size k. cc) h
 
+-- the displacement bytes of an address are read as its displacement
 pub written : (asize : Bits) (next : ℕ) (m : Mem) → next < 2 ^ 64 → is_displacement asize m ≡ true → address_reaches next m ≡ true → Written asize next m (displacement_of next m)
 unfolding is_displacement address_reaches displacement_of
 written asize next m below h r = written_at asize next m (form_of m.base m.index) refl below h r

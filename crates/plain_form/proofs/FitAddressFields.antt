@@ -37,6 +37,7 @@ pub record Mean (bits asize : Bits) (f : PrefixState) (m : Mem) (reg next : ℕ)
 
 -- ---- at RIP and EIP
 
+-- the fields of an address at RIP or EIP mean that address
 pub relative_means : (size : Bits) (f : PrefixState) (m : Mem) (reg next : ℕ) (d : List ℕ) → is_16 size ≡ false → Some (instruction_pointer size) ≡ m.base → None ≡ m.index → 1 ≡ m.scale → target_of size next d ≡ m.disp → displacement_count m.disp_size ≡ 4 → Mean B64 size f m reg next d (fields 0 5 None)
 unfolding memory_of memory_wide ip_or_absolute needs_sib displacement_bytes is_displacement_alone sib_in_range disp_size_of
 relative_means B16 f m reg next d short b i s t c = cc
@@ -47,6 +48,7 @@ relative_means B64 f m reg next d short b i s t c =
 
 -- ---- a displacement alone
 
+-- the fields of a displacement alone mean that displacement
 pub alone_means : (bits asize : Bits) (f : PrefixState) (scale disp : ℕ) (size : DispSize) (reg next : ℕ) (d : List ℕ) → 1 ≡ scale → displacement asize d ≡ disp → length d ≡ displacement_count size → displacement_count size ≡ full_displacement asize → bit_x f ≡ false → Mean bits asize f (address None None scale disp size) reg next d (alone_fields bits asize (address None None scale disp size))
 unfolding alone_fields memory_of memory_16 memory_wide ip_or_absolute memory_with_sib sib_base sib_index index_number plain_sib index_bits base_bits needs_sib displacement_bytes is_displacement_alone sib_in_range disp_size_of
 alone_means bits B16 f scale disp size reg next d s t l c x =
@@ -138,6 +140,7 @@ short_offer rm D16 h = record { alone = refl; count = refl; mode3 = omega arith 
 short_offer rm D32 h = cc
 short_offer rm D64 h = cc
 
+-- the fields of a 16-bit address mean that address
 pub short_means : (bits : Bits) (f : PrefixState) (n rm : ℕ) (index : Option Register) (scale disp : ℕ) (size : DispSize) (reg next : ℕ) (d : List ℕ) → rm_of_short n index ≡ Some rm → short_offers (Some rm) (displacement_count size) ≡ true → 1 ≡ scale → displacement B16 d ≡ disp → length d ≡ displacement_count size → Mean bits B16 f (address (Some (R16 n)) index scale disp size) reg next d (fields (mode_of_count (displacement_count size)) rm None)
 unfolding memory_of needs_sib displacement_bytes is_displacement_alone sib_in_range
 short_means bits f n rm index scale disp size reg next d named offer s t l =
@@ -185,6 +188,7 @@ wide_mode base n = elim base [ None ↦ 0 | Some _ ↦ mode_of_count n ]
 abbrev pub sib_for : Option Register → Option Register → ℕ → Sib
 sib_for base index scale = record { scale = elim index [ None ↦ 0 | Some _ ↦ scale_field scale ]; index = index_bits index; base = base_bits base }
 
+-- the base that is written is read back
 pub base_back : (bits asize : Bits) (f : PrefixState) (base index : Option Register) (scale : ℕ) (size : DispSize) (reg : ℕ) → is_16 asize ≡ false → is_base bits asize base ≡ true → wide_offers base (displacement_count size) ≡ true → bit_b bits f ≡ nat_le 8 (number_or_zero base) → sib_base bits asize f (record { mode3 = wide_mode base (displacement_count size); reg = reg; rm = 4 }) (sib_for base index scale) ≡ base
 unfolding is_base base_bits
 base_back bits asize f None index scale size reg wide h o b = sib_base-none bits asize f _ _ refl
@@ -194,6 +198,7 @@ base_back bits asize f (Some r) index scale size reg wide h o b =
     sib_base-some bits asize f _ _ (wide_offer asize r size reg 0 0 wide o).alone
     ∙ ap (λ (x : ℕ). Some (general_register asize x)) (extended_number (bit_b bits f) (register_number r) few b) ∙ ap (λ (x : Register). Some x) a.is
 
+-- so is the index
 pub index_back : (bits asize : Bits) (f : PrefixState) (base index : Option Register) (scale : ℕ) → is_index bits asize index ≡ true → bit_x f ≡ nat_le 8 (number_or_zero index) → sib_index asize f (sib_for base index scale) ≡ index
 unfolding is_index index_bits
 index_back bits asize f base None scale h x = sib_index-none asize f (sib_for base None scale) (rw x refl)
@@ -213,6 +218,7 @@ scale_by n false false true d e1 e2 e3 e4 h = subst (λ (k : ℕ). 2 ^ scale_fie
 scale_by n false false false true e1 e2 e3 e4 h = subst (λ (k : ℕ). 2 ^ scale_field k ≡ k) (sym (eqb-true n 8 e4)) refl
 scale_by n false false false false e1 e2 e3 e4 h = cc
 
+-- a scale is 2 to its field
 pub scale_power : (n : ℕ) → is_scale n ≡ true → 2 ^ scale_field n ≡ n
 scale_power n h = scale_by n (n == 1) (n == 2) (n == 4) (n == 8) refl refl refl refl h
 
@@ -224,6 +230,7 @@ scale_small : (n : ℕ) → scale_field n < 4
 unfolding scale_field
 scale_small n = if_small (n == 1) 0 _ 4 (omega arith) (if_small (n == 2) 1 _ 4 (omega arith) (if_small (n == 4) 2 3 4 (omega arith) (omega arith)))
 
+-- the scale that is written is read back
 pub scale_back : (base index : Option Register) (scale : ℕ) → scale_suits index scale ≡ true → scale_of index (sib_for base index scale) ≡ scale
 unfolding scale_suits
 scale_back base None scale h = sym (eqb-true scale 1 h)
@@ -239,6 +246,7 @@ unfolding index_bits
 low_index None = omega arith
 low_index (Some r) = (let n = register_number r in omega arith)
 
+-- the SIB of an address has fields in range
 pub sib_for-range : (base index : Option Register) (scale : ℕ) → sib_in_range (Some (sib_for base index scale)) ≡ true
 unfolding sib_in_range
 sib_for-range base index scale =
@@ -278,6 +286,7 @@ pub record SibAsked (asize : Bits) (base index : Option Register) (scale : ℕ) 
   pub count : displacement_bytes asize (modrm_with reg (fields_with_sib base index scale size)) (Some (sib_for base index scale)) ≡ displacement_count size
   pub mode3 : wide_mode base (displacement_count size) < 3
 
+-- an address with registers asks for the SIB that is written
 pub sib_asked : (asize : Bits) (base index : Option Register) (scale : ℕ) (size : DispSize) (reg : ℕ) → is_16 asize ≡ false → wide_offers base (displacement_count size) ≡ true → SibAsked asize base index scale size reg
 unfolding needs_sib displacement_bytes is_displacement_alone base_bits wide_offers
 sib_asked asize None index scale size reg wide offer =

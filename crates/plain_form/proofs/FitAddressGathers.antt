@@ -161,6 +161,7 @@ gather_means bits asize row f file m reg d v p = by_index m.index refl
 
 -- ---- an absolute address
 
+-- an absolute address is read back
 pub absolute_means : (asize : Bits) (m : Mem) (d : List ℕ) → (is_none m.base && (is_none m.index && m.scale == 1)) ≡ true → length d ≡ displacement_count m.disp_size → displacement asize d ≡ m.disp → memory_absolute asize d ≡ m
 unfolding memory_absolute
 absolute_means asize m d h l v =
@@ -180,10 +181,12 @@ unfolding is_vector_index
 form_by bits row file base None scale h = impossible (sym (and_parts (is_gather_base bits base) false h).1)
 form_by bits row file base (Some r) scale h = gather_form bits base r (and_parts (is_gather_base bits base) _ h).0
 
+-- a gather has a 32 or 64-bit address
 pub gather_is_wide : (bits : Bits) (row : Row) (file : File) (m : Mem) → is_gather_shape bits row file m ≡ true → form_of m.base m.index ≡ Wide
 unfolding is_gather_shape
 gather_is_wide bits row file m h = form_by bits row file m.base m.index m.scale h
 
+-- a gather shows no size but its base's
 pub gather_shown : (bits asize : Bits) (row : Row) (file : File) (m : Mem) → is_gather_shape bits row file m ≡ true → size_agrees asize (MemOperand m) ≡ true → agrees asize (shown_size m) ≡ true
 gather_shown bits asize row file m h s = agreed_size m asize (gather_is_wide bits row file m h) s
 
@@ -192,6 +195,7 @@ no_register asize None None scale h = refl
 no_register asize None (Some r) scale h = impossible (sym h)
 no_register asize (Some r) index scale h = impossible (sym h)
 
+-- an absolute address shows no size
 pub absolute_shown : (asize : Bits) (m : Mem) → (is_none m.base && (is_none m.index && m.scale == 1)) ≡ true → agrees asize (shown_size m) ≡ true
 unfolding shown_size
 absolute_shown asize m h = no_register asize m.base m.index m.scale h
@@ -202,5 +206,6 @@ no_form None None scale h = refl
 no_form None (Some r) scale h = impossible (sym h)
 no_form (Some r) index scale h = impossible (sym h)
 
+-- it is a displacement alone
 pub absolute_is_alone : (m : Mem) → (is_none m.base && (is_none m.index && m.scale == 1)) ≡ true → form_of m.base m.index ≡ Alone
 absolute_is_alone m h = no_form m.base m.index m.scale h

@@ -25,6 +25,7 @@ use Rattle.plain_form.proofs.FitAddressFields.{fields, Mean, relative_means, alo
 
 -- ---- by the form of an address
 
+-- the fields of an address by its form
 abbrev pub fields_at : Bits → Bits → Mem → AddressForm → AddressFields
 fields_at bits asize m form =
     elim form [
@@ -34,6 +35,7 @@ fields_at bits asize m form =
       | Wide ↦ wide_fields m
     ]
 
+-- they are those of the address
 pub fields_are : (bits asize : Bits) (m : Mem) (form : AddressForm) → form_of m.base m.index ≡ form → address_fields bits asize m ≡ fields_at bits asize m form
 unfolding address_fields
 fields_are bits asize m form e = ap (fields_at bits asize m) e
@@ -80,6 +82,7 @@ at_pointer m asize B16 wide h = cc
 at_pointer m asize B32 wide h = same_bits-is B32 asize h
 at_pointer m asize B64 wide h = same_bits-is B64 asize h
 
+-- an address at RIP or EIP has the size of that register
 pub relative_size : (m : Mem) (asize size : Bits) → form_of m.base m.index ≡ Relative size → size_agrees asize (MemOperand m) ≡ true → size ≡ asize
 relative_size m asize size e h =
     let base = form-relative m.base m.index size e in
@@ -123,6 +126,7 @@ at_short : (m : Mem) (asize : Bits) (n : ℕ) → size_agrees asize (MemOperand 
 unfolding size_agrees told_size pointer_size shown_size general_size
 at_short m asize n h = same_bits-is B16 asize h
 
+-- a 16-bit address has the address size 16
 pub short_size : (m : Mem) (asize : Bits) (n : ℕ) → form_of m.base m.index ≡ Short n → size_agrees asize (MemOperand m) ≡ true → B16 ≡ asize
 short_size m asize n e h =
     at_short m asize n
@@ -155,6 +159,7 @@ by_short bits asize f m reg next d n e p = by_rm (rm_of_short n m.index) refl (a
         (subst (λ (a : Bits). Mean bits a f m reg next d (fields mode3 rm None)) size
         (subst (λ (k : Mem). Mean bits B16 f k reg next d (fields mode3 rm None)) base found)))
 
+-- a 32 or 64-bit address is not at RIP or EIP
 pub wide_pointer : (base index : Option Register) → form_of base index ≡ Wide → pointer_if base ≡ None
 unfolding form_of pointer_size
 wide_pointer None index h = refl
@@ -171,6 +176,7 @@ pub record FlatShape (bits asize : Bits) (m : Mem) : Type 0 where
   pub index_is : is_index bits asize m.index ≡ true
   pub scale_is : scale_suits m.index m.scale ≡ true
 
+-- it agrees with the size that it shows
 pub agreed_size : (m : Mem) (asize : Bits) → form_of m.base m.index ≡ Wide → size_agrees asize (MemOperand m) ≡ true → agrees asize (shown_size m) ≡ true
 unfolding size_agrees
 agreed_size m asize e h = subst (λ (o : Option Bits). agrees asize o ≡ true) (told_is_shown m (wide_pointer m.base m.index e)) h
@@ -203,6 +209,7 @@ wide_given bits asize m (Some size) e s h =
       scale_is = (and_parts i c h3).1;
     }
 
+-- its base, index and scale suit its size
 pub wide_shape : (bits asize : Bits) (m : Mem) → form_of m.base m.index ≡ Wide → is_shape bits m ≡ true → size_agrees asize (MemOperand m) ≡ true → FlatShape bits asize m
 unfolding is_wide_shape
 wide_shape bits asize m e h s = wide_given bits asize m (shown_size m) refl (agreed_size m asize e s) (shape_is bits m Wide e h)

@@ -56,6 +56,7 @@ pub record MemoryAt (bits : Bits) (ip : ℕ) (row : Row) (i : Instr) (n : ℕ) (
 by_operand : (p : Operand → Bool) (op : Operand) (m : Mem) → op ≡ MemOperand m → p op ≡ true → p (MemOperand m) ≡ true
 by_operand p op m e h = subst (λ (x : Operand). p x ≡ true) e h
 
+-- a memory operand of a suitable instruction is read back from its fields
 pub memory_at : (bits : Bits) (ip : ℕ) (row : Row) (i : Instr) (n : ℕ) (m : Mem) → Given bits ip row i → n < 4 → operand_at i n ≡ MemOperand m → MemoryAt bits ip row i n m
 unfolding kind_suits address_suits displacement_offered target_suits
 memory_at bits ip row i n m g below e =

@@ -65,6 +65,7 @@ rex-for : (row : Row) (i : Instr) → is_vex_row row ≡ false → asked_rex row
 unfolding asked_rex
 rex-for row i h = rw h refl
 
+-- a VEX row asks for no REX
 pub rex_of_vex : (row : Row) (i : Instr) → is_vex_row row ≡ true → asked_rex row i ≡ None
 unfolding asked_rex
 rex_of_vex row i h = rw h refl
@@ -82,23 +83,28 @@ count-small B16 h = refl
 count-small B32 h = refl
 count-small B64 h = cc
 
+-- a mode has at most 16 registers of a class
 pub count-most : (bits : Bits) → register_count bits ≤ 16
 unfolding register_count
 count-most B16 = omega arith
 count-most B32 = omega arith
 count-most B64 = omega arith
 
+-- outside 64-bit mode a register number is below 8
 pub asked-small : (bits : Bits) (n : ℕ) → is_64 bits ≡ false → n < register_count bits → n < 8
 asked-small bits n h k = (let e = count-small bits h in omega arith)
 
+-- so R is not asked for
 pub no_r : (bits : Bits) (row : Row) (i : Instr) → is_64 bits ≡ false → NumbersSuit bits row i → asks_r row i ≡ false
 unfolding asks_r
 no_r bits row i h n = lt-leb 8 (number_asked_of number_in_reg row i) (asked-small bits (number_asked_of number_in_reg row i) h n.reg)
 
+-- nor is X
 pub no_x : (bits : Bits) (row : Row) (i : Instr) → is_64 bits ≡ false → NumbersSuit bits row i → asks_x row i ≡ false
 unfolding asks_x
 no_x bits row i h n = lt-leb 8 (number_asked_of number_in_index row i) (asked-small bits (number_asked_of number_in_index row i) h n.index)
 
+-- nor is B
 pub no_b : (bits : Bits) (row : Row) (i : Instr) → is_64 bits ≡ false → NumbersSuit bits row i → asks_b row i ≡ false
 unfolding asks_b
 no_b bits row i h n = lt-leb 8 (number_asked_of number_in_rm row i) (asked-small bits (number_asked_of number_in_rm row i) h n.rm)
@@ -118,6 +124,7 @@ rex_if-is bits false w r x b h = tt
 no_rex : (w r x b low : Bool) → w ≡ false → r ≡ false → x ≡ false → b ≡ false → low ≡ false → rex_for w r x b low ≡ None
 no_rex w r x b low hw hr hx hb hl = rw hw (rw hr (rw hx (rw hb (rw hl refl))))
 
+-- the REX that is asked for is one that the mode has
 pub rex-is : (bits : Bits) (row : Row) (i : Instr) → has_plain_size bits row ≡ true → NumbersSuit bits row i → IsRexIf bits (asked_rex row i)
 rex-is bits row i size n = elim (cases_Bool (is_vex_row row)) [
   | inl vex ↦ subst (λ (o : Option ℕ). IsRexIf bits o) (sym (rex_of_vex row i vex)) tt
@@ -207,6 +214,7 @@ front_address : (bits : Bits) (row : Row) (i : Instr) (a : Bits) → i.asize ≡
 unfolding plain_front_of asks_67
 front_address bits row i a e h = rw e (asize_back bits a h)
 
+-- the bits of the plain front are those that the numbers ask for
 pub front_bits : (bits : Bits) (row : Row) (i : Instr) → NumbersSuit bits row i → FrontBits bits row i
 front_bits bits row i n = record {
   r = front_r bits row i;

@@ -32,6 +32,7 @@ use Rattle.plain_form.proofs.FitFrontBits.{FrontBits}
 
 -- ---- what the conditions on an instruction say of its prefixes
 
+-- the LOCK of suitable prefixes suits
 pub lock_of : (row : Row) (i : Instr) → prefixes_suit row i ≡ true → lock_suits row i ≡ true
 unfolding prefixes_suit
 lock_of row i h = (and_parts (lock_suits row i) (repeat_suits row i) h).0
@@ -99,6 +100,7 @@ size_allowed : (bits : Bits) (row : Row) → class_allows_size bits row ≡ true
 unfolding class_allows_size
 size_allowed bits row h = h
 
+-- the plain front has the prefixes of the row's class
 pub front_class : (bits : Bits) (ip : ℕ) (row : Row) (i : Instr) → Given bits ip row i → class_fits row (plain_front_of bits row i) ≡ true
 unfolding class_fits plain_front_of
 front_class bits ip row i g = elim (cases_Bool (is_vex_row row)) [
@@ -203,6 +205,7 @@ vex_sizes bits row i = elim (cases_Bool (is_vex_row row)) [
   | inr legacy ↦ rw (vex_of_legacy row i legacy) refl
 ]
 
+-- and its sizes
 pub front_sizes : (bits : Bits) (row : Row) (i : Instr) → has_plain_size bits row ≡ true → FrontBits bits row i → sizes_fit bits row (plain_front_of bits row i) ≡ true
 unfolding sizes_fit plain_front_of
 front_sizes bits row i h b =
@@ -219,6 +222,7 @@ vvvv_by n true h = or_true (n == 0)
     or_true false = refl
 vvvv_by n false h = rw (h refl) refl
 
+-- and its vvvv fits
 pub front_vvvv_fits : (bits : Bits) (row : Row) (i : Instr) → NumbersSuit bits row i → vvvv_fits row (plain_front_of bits row i) ≡ true
 unfolding vvvv_fits plain_front_of
 front_vvvv_fits bits row i n = elim (cases_Bool (is_vex_row row)) [

@@ -327,19 +327,23 @@ rex_is_byte bits (Some b) r = (let h = r.1 in rw (lt-ltb b 256 (omega arith)) re
 
 -- ---- how many there are
 
+-- a segment prefix is one byte, if there is one
 pub segment_count : (seg : Option Segment) → length (segment_prefix seg) ≡ bit (is_some seg)
 segment_count None = refl
 segment_count (Some s) = refl
 
+-- so is an optional prefix
 pub byte_count : (b : Bool) (x : ℕ) → length (byte_if b x) ≡ bit b
 byte_count true x = refl
 byte_count false x = refl
 
+-- so is a repeat prefix
 pub repeat_count : (rep : Rep) → length (repeat_prefix rep) ≡ count_repeat rep
 repeat_count NoRep = refl
 repeat_count RepF2 = refl
 repeat_count RepF3 = refl
 
+-- so is a REX
 pub rex_count : (rex : Option ℕ) → length (rex_prefix rex) ≡ bit (is_some rex)
 rex_count None = refl
 rex_count (Some b) = refl
@@ -387,6 +391,7 @@ no_repeat_parts bits seg s a l rep rex r e =
     (none-both is_repeat (byte_if s 0x66) _ (no_byte is_repeat s 0x66 refl) (none-both is_repeat (byte_if a 0x67) _ (no_byte is_repeat a 0x67 refl)
     (none-both is_repeat (byte_if l 0xF0) _ (no_byte is_repeat l 0xF0 refl) (no_rex is_repeat bits rex rex_is_no_repeat r)))))
 
+-- the prefixes of a front count for that front
 pub counts_of : (bits : Bits) (f : PrefixState) → IsRexIf bits f.rex → Counts bits f
 unfolding prefixes_of
 counts_of bits f r = record {

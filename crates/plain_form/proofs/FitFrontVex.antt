@@ -67,6 +67,7 @@ fits_by NoPlus o k = same_number o
 fits_by PlusStack o k = same_number o
 fits_by PlusRegister o k = and_from (nat_le o (o + k % 8)) (nat_lt (o + k % 8) (o + 8)) (le-leb o (o + k % 8) (omega arith)) (lt-ltb (o + k % 8) (o + 8) (omega arith))
 
+-- the opcode byte that is asked for is one of the row
 pub front_opcode : (row : Row) (i : Instr) → opcode_fits row (asked_opcode row i) ≡ true
 unfolding opcode_fits asked_opcode
 front_opcode row i = fits_by row.plus row.opcode (number_asked_of number_in_opcode row i)
@@ -76,6 +77,7 @@ below_by NoPlus o k h1 h2 = ltb-true o 256 h1
 below_by PlusStack o k h1 h2 = ltb-true o 256 h1
 below_by PlusRegister o k h1 h2 = (let h = ltb-true (o + 7) 256 h2 in omega arith)
 
+-- it is a byte
 pub front_opcode_byte : (row : Row) (i : Instr) → Sound row → asked_opcode row i < 256
 unfolding asked_opcode opcodes_are_bytes
 front_opcode_byte row i s =
@@ -191,9 +193,11 @@ opcodes_pass bits row legacy h =
     let k = or_right (is_vex_row row) (a && b) legacy h in
     record { is_opcode = (and_parts a b k).0; is_allowed = (and_parts a b k).1 }
 
+-- behind a legacy front it is an opcode byte
 pub front_is_opcode : (bits : Bits) (row : Row) (i : Instr) → is_vex_row row ≡ false → opcode_is_plain bits row ≡ true → is_opcode bits row.map (asked_opcode row i) ≡ true
 front_is_opcode bits row i legacy h = opcode_passes row i (is_opcode bits row.map) (opcodes_pass bits row legacy h).is_opcode
 
+-- which allows the ModRM
 pub front_is_allowed : (bits : Bits) (row : Row) (i : Instr) (m : Option ModRm) → Sound row → is_vex_row row ≡ false → opcode_is_plain bits row ≡ true → place_fits row m ≡ true → modrm_rule_fits row.plus row.modrm m ≡ true → opcode_allows bits row.map (asked_opcode row i) m ≡ true
 unfolding opcode_is_allowed
 front_is_allowed bits row i m s legacy h place rule =
@@ -203,6 +207,7 @@ front_is_allowed bits row i m s legacy h place rule =
 
 -- ---- the VEX
 
+-- the VEX that is asked for has fields in range
 pub front_vex_range : (bits : Bits) (row : Row) (i : Instr) → Sound row → NumbersSuit bits row i → vex_in_range (asked_vex row i) ≡ true
 front_vex_range bits row i s n =
     let small = n.vvvv in
@@ -234,6 +239,7 @@ no_66_of_vex : (bits : Bits) (row : Row) → is_vex_row row ≡ true → asks_66
 unfolding asks_66
 no_66_of_vex bits row vex = rw vex refl
 
+-- no prefix of the plain front forbids it
 pub front_allows_vex : (bits : Bits) (ip : ℕ) (row : Row) (i : Instr) → Given bits ip row i → Counts bits (plain_front_of bits row i) → is_vex_row row ≡ true → forbids_vex bits (prefixes_of (plain_front_of bits row i)) ≡ false
 unfolding plain_front_of
 front_allows_vex bits ip row i g c vex =

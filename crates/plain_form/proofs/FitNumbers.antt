@@ -34,6 +34,7 @@ use Rattle.plain_form.specs.Given.{Given, NumbersSuit}
 
 -- ---- where a kind passes a test
 
+-- if a kind passes a test, there is an index of one
 pub kind_that_passes : (p : OpKind → Bool) (kinds : List OpKind) (d : OpKind) → list_any p kinds ≡ true → (n : ℕ) × (n < length kinds) × (p (slice_index_or kinds n d) ≡ true)
 kind_that_passes p [] d h = cc
 kind_that_passes p (kind ∷ kinds) d h = elim (cases_Bool (p kind)) [
@@ -83,6 +84,7 @@ nameable-at bits row i n r h below e = nameable_parts bits row i n r (register_p
 
 -- ---- addresses
 
+-- a mode has at least 8 registers of a class
 pub count_positive : (bits : Bits) → 8 ≤ register_count bits
 unfolding register_count
 count_positive B16 = omega arith
@@ -262,6 +264,7 @@ operand_small bits row i n how file _ h k =
     let c = count_positive bits in
     record { register = omega arith; base = omega arith; index = omega arith }
 
+-- the numbers of a suitable operand fit their fields
 pub small-at : (bits : Bits) (row : Row) (i : Instr) (n : ℕ) → n < 4 → each_operand (register_suits bits row i) ≡ true → each_operand (address_suits bits row i) ≡ true → SmallOperand bits (operand_at i n)
 unfolding register_suits address_suits
 small-at bits row i n below registers addresses =

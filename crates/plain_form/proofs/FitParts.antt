@@ -21,6 +21,7 @@ use Rattle.plain_form.proofs.PartLengths.{modrm_count, sib_count, parts_length}
 abbrev pub plain_disp : Bits → ℕ → Row → Instr → List ℕ
 plain_disp bits ip row i = displacement_of_operand (plain_next bits ip row i) (address_operand row i)
 
+-- the immediates of a plain spelling
 abbrev pub plain_imm : Bits → ℕ → Row → Instr → List ℕ
 plain_imm bits ip row i = plain_immediates (plain_size bits row) row i (plain_next bits ip row i)
 
@@ -65,6 +66,7 @@ pub record PartLengths (bits : Bits) (ip : ℕ) (row : Row) (i : Instr) : Type 0
   pub disp : length (plain_disp bits ip row i) ≡ operand_displacement (address_operand row i)
   pub imm : length (plain_imm bits ip row i) ≡ immediates_bytes (plain_size bits row) row
 
+-- a plain spelling is as long as its parts
 pub plain_length : (bits : Bits) (ip : ℕ) (row : Row) (i : Instr) → PartLengths bits ip row i → length (bytes_of row (plain_spelling bits ip row i)) ≡ plain_len bits row i
 unfolding plain_len plain_spelling immediates_bytes front_bytes
 plain_length bits ip row i p =
@@ -75,6 +77,7 @@ plain_length bits ip row i p =
 
 -- ---- the instruction
 
+-- an instruction by its parts
 abbrev pub instr_with : Code → List Operand → Bool → Rep → Option Segment → Option Bits → Instr
 instr_with code ops lock rep seg asize = record { code = code; ops = ops; lock = lock; rep = rep; seg = seg; asize = asize }
 

@@ -43,10 +43,12 @@ use Rattle.plain_spelling.proofs.Asked.{proper, four_kinds, one_rm, each-at, ask
 use Rattle.plain_form.specs.Given.{Given}
 use Rattle.plain_form.proofs.FitNumbers.{kind_that_passes}
 
+-- a test that holds at each index holds of all kinds
 pub all-from : (p : OpKind → Bool) (kinds : List OpKind) (d : OpKind) → ((k : ℕ) → k < length kinds → p (slice_index_or kinds k d) ≡ true) → list_all p kinds ≡ true
 all-from p [] d h = refl
 all-from p (kind ∷ kinds) d h = and_from (p kind) (list_all p kinds) (h 0 (omega arith)) (all-from p kinds d (λ k below. h (suc k) (omega arith)))
 
+-- one of two tests holds if the second does
 pub or_true : (a b : Bool) → b ≡ true → (a || b) ≡ true
 or_true true b h = refl
 or_true false b h = h
@@ -157,6 +159,7 @@ pub modrm_digit : (bits : Bits) (row : Row) (i : Instr) (d : ℕ) → row.modrm 
 unfolding plain_modrm
 modrm_digit bits row i d e = rw e refl
 
+-- the ModRM that a row fixes, with a stack number
 abbrev pub fixed_modrm : Row → Instr → ℕ → ModRm
 fixed_modrm row i b = record { mode3 = b / 64; reg = b / 8 % 8; rm = fixed_rm row i b }
 
@@ -164,10 +167,12 @@ pub modrm_fixed : (bits : Bits) (row : Row) (i : Instr) (b : ℕ) → row.modrm 
 unfolding plain_modrm
 modrm_fixed bits row i b e = rw e refl
 
+-- a row with any ModRM has the SIB of the address
 pub sib_any : (bits : Bits) (row : Row) (i : Instr) → row.modrm ≡ AnyModRm → plain_sib_of bits row i ≡ (fields_of bits row i).sib
 unfolding plain_sib_of
 sib_any bits row i e = rw e refl
 
+-- so has a row with a digit
 pub sib_digit : (bits : Bits) (row : Row) (i : Instr) (d : ℕ) → row.modrm ≡ Digit d → plain_sib_of bits row i ≡ (fields_of bits row i).sib
 unfolding plain_sib_of
 sib_digit bits row i d e = rw e refl
@@ -215,6 +220,7 @@ fixed_mode b h =
     let high = ltb-true b 256 (and_parts (nat_le 0xC0 b) (nat_lt b 256) h).1 in
     omega arith
 
+-- a fixed ModRM byte has mod 3
 pub fixed_mode_is : (row : Row) (b : ℕ) → Sound row → row.modrm ≡ FixedByte b → b / 64 ≡ 3
 fixed_mode_is row b s e = fixed_mode b (subst (λ (rule : ModRmRule). rule_in_range rule ≡ true) e s.rule)
 
@@ -291,9 +297,11 @@ pub record RegisterInRm (bits : Bits) (row : Row) (i : Instr) (r : Register) : T
   pub mode : modrm.mode3 ≡ 3
   pub rm : modrm.rm ≡ register_number r % 8
 
+-- a kind that is read in r/m uses B
 pub reads_b_of_rm : (how : Method) → reads_rm how ≡ true → reads_b how ≡ true
 reads_b_of_rm how h = rw h refl
 
+-- a register that is read in r/m stands there
 pub register_in_rm : (bits : Bits) (row : Row) (i : Instr) (n : ℕ) (r : Register) → Sound row → rule_is_plain row ≡ true → length i.ops ≡ 4 → n < 4 → reads_rm (method_of (kind_at row n)) ≡ true → operand_at i n ≡ Reg r → RegisterInRm bits row i r
 register_in_rm bits row i n r s plain four below reads e = go row.modrm refl
   where
@@ -335,6 +343,7 @@ unfolding is_variant_of
 not_register place method.RegisterOnly m h k = sym k
 not_register place _ m h k = sym h
 
+-- so does a memory operand
 pub memory_in_rm : (bits : Bits) (row : Row) (i : Instr) (n : ℕ) (m : Mem) → Sound row → rule_is_plain row ≡ true → length i.ops ≡ 4 → each_operand (kind_suits row i) ≡ true → n < 4 → reads_rm (method_of (kind_at row n)) ≡ true → operand_at i n ≡ MemOperand m → MemoryInRm bits row i m
 unfolding kind_suits
 memory_in_rm bits row i n m s plain four kinds below reads e = go row.modrm refl

@@ -74,6 +74,7 @@ extended_back x h = elim (cases_Bool (nat_le 8 x)) [
 pub says : (bits : Bits) (ip : ℕ) (row : Row) (i : Instr) → Given bits ip row i → FrontBits bits row i
 says bits ip row i g = front_bits bits row i (numbers_suit bits ip row i g)
 
+-- a register number of a mode is below 16
 pub below_16 : (bits : Bits) (x : ℕ) → x < register_count bits → x < 16
 below_16 bits x h = let k = count-most bits in omega arith
 
@@ -109,10 +110,12 @@ rm_number-at bits ip row i n r g below reads e =
 
 -- ---- the register of a kind
 
+-- an operand that tests as a register is one
 pub register_variant : (op : Operand) → is_register op ≡ true → (r : Register) × (op ≡ Reg r)
 register_variant (Reg r) h = (r, refl)
 register_variant _ h = cc
 
+-- an operand that tests as memory is memory
 pub memory_variant : (op : Operand) → is_memory op ≡ true → (m : Mem) × (op ≡ MemOperand m)
 memory_variant (MemOperand m) h = (m, refl)
 memory_variant _ h = cc
@@ -132,6 +135,7 @@ unfolding is_variant_of
 gather_variant place method.Gather op h k = k
 gather_variant place _ op h k = cc
 
+-- each operand is of a variant that its kind allows
 pub variant-at : (row : Row) (i : Instr) (n : ℕ) → each_operand (kind_suits row i) ≡ true → n < 4 → is_variant_of row.place (method_of (kind_at row n)) (operand_at i n) ≡ true
 unfolding kind_suits
 variant-at row i n kinds below = each-at (kind_suits row i) n below kinds
@@ -339,6 +343,7 @@ if_true : (t a b c : Bool) → t ≡ true → (if t || a then b else c) ≡ true
 if_true true a b c e h = h
 if_true false a b c e h = cc
 
+-- a memory operand has the address size of the instruction
 pub size_of_memory : (bits : Bits) (row : Row) (i : Instr) (n : ℕ) → address_size_suits bits row i ≡ true → n < 4 → is_memory (operand_at i n) ≡ true → HasSize bits row i
 unfolding address_size_suits
 size_of_memory bits row i n h below memory =
@@ -688,6 +693,7 @@ and_false_right : (a b : Bool) → a ≡ true → not (a && b) ≡ true → b �
 and_false_right true b e h = not-true b h
 and_false_right false b e h = cc
 
+-- a kind that is read in the opcode byte uses B
 pub reads_b_right : (how : Method) → reads_opcode how ≡ true → reads_b how ≡ true
 reads_b_right method.OpcodeLow h = refl
 reads_b_right _ h = cc
@@ -696,6 +702,7 @@ repeat_of_front : (bits : Bits) (row : Row) (i : Instr) → is_vex_row row ≡ f
 unfolding plain_front_of asked_repeat
 repeat_of_front bits row i legacy = rw legacy refl
 
+-- the opcode byte of the plain front is the one that is asked for
 pub opcode_of_front : (bits : Bits) (row : Row) (i : Instr) → (plain_front_of bits row i).opcode ≡ asked_opcode row i
 unfolding plain_front_of
 opcode_of_front bits row i = refl

@@ -36,14 +36,17 @@ use Rattle.plain_form.proofs.Bits.{NeedsAre}
 
 -- ---- the plain spelling as one that fits and means the instruction
 
+-- the plain front of a suitable instruction fits
 pub front_fits : (bits : Bits) (ip : ℕ) (row : Row) (i : Instr) → fit.Given bits ip row i → PlainFrontFits bits row i
 front_fits bits ip row i g =
     plain_front_fits bits ip row i g (numbers_suit bits ip row i g) (places_fit bits ip row i g) (rule_fits bits row i g.is_sound)
 
+-- the state of the plain spelling is the plain front
 pub own_state : (bits : Bits) (ip : ℕ) (row : Row) (i : Instr) → PlainFrontFits bits row i → state_of bits row (plain_spelling bits ip row i) ≡ plain_front_of bits row i
 unfolding plain_spelling
 own_state bits ip row i f = f.state (plain_spelling bits ip row i) refl refl refl
 
+-- a suitable instruction is what its plain spelling means
 pub given_of : (bits : Bits) (ip : ℕ) (row : Row) (i : Instr) → fit.Given bits ip row i → need.Given bits ip i.code row (plain_spelling bits ip row i) i
 given_of bits ip row i g = record {
   is_sound = g.is_sound;
@@ -57,6 +60,7 @@ read_keeps : (bits : Bits) (ip : ℕ) (code : Code) (row : Row) (s : Spelling) �
 unfolding instr_of
 read_keeps bits ip code row s = record { lock = refl; rep = refl; seg = refl; asize = refl }
 
+-- what a spelling keeps of the prefixes that count
 pub keeps_of : (bits : Bits) (ip : ℕ) (code : Code) (row : Row) (s : Spelling) (i : Instr) → need.Given bits ip code row s i → Keeps bits row (state_of bits row s) s.modrm i
 keeps_of bits ip code row s i g = subst (Keeps bits row (state_of bits row s) s.modrm) (read_is bits ip code row s i g) (read_keeps bits ip code row s)
 
@@ -70,6 +74,7 @@ front_rex : (bits : Bits) (row : Row) (i : Instr) → (plain_front_of bits row i
 unfolding plain_front_of
 front_rex bits row i = refl
 
+-- the prefixes of a plain spelling are the needed ones
 pub prefixes_plain : (bits : Bits) (ip : ℕ) (row : Row) (i : Instr) → fit.Given bits ip row i → (plain_spelling bits ip row i).prefixes.items ≡ needed_prefixes bits row (plain_spelling bits ip row i)
 prefixes_plain bits ip row i g =
     let s = plain_spelling bits ip row i in
@@ -80,13 +85,16 @@ prefixes_plain bits ip row i g =
 
 -- ---- the bits
 
+-- a bit is set only if it is needed, as it is the needed one
 pub only_same : (a b : Bool) → a ≡ b → only_if b a ≡ true
 only_same true b h = sym h
 only_same false b h = refl
 
+-- R of the plain front is set only if it is needed
 pub r_plain : (bits : Bits) (row : Row) (i : Instr) → FrontBits bits row i → NeedsAre row i → only_if (needs_r row i.ops) (bit_r (plain_front_of bits row i)) ≡ true
 r_plain bits row i f n = only_same (bit_r (plain_front_of bits row i)) (needs_r row i.ops) (f.r ∙ sym n.r)
 
+-- so is X
 pub x_plain : (bits : Bits) (row : Row) (i : Instr) → FrontBits bits row i → NeedsAre row i → only_if (needs_x row i.ops) (bit_x (plain_front_of bits row i)) ≡ true
 x_plain bits row i f n = only_same (bit_x (plain_front_of bits row i)) (needs_x row i.ops) (f.x ∙ sym n.x)
 
@@ -111,6 +119,7 @@ front_vex bits row i = refl
 only_false : (a b : Bool) → a ≡ false → only_if b a ≡ true
 only_false a b h = rw h refl
 
+-- so is B
 pub b_plain : (bits : Bits) (row : Row) (i : Instr) → FrontBits bits row i → NeedsAre row i → StateIs bits row (plain_front_of bits row i) → only_if (needs_b row i.ops) (shared_bit (λ v. v.b) 0 (plain_front_of bits row i)) ≡ true
 b_plain bits row i f n st =
     let p = plain_front_of bits row i in
@@ -132,6 +141,7 @@ vex_w st row i e = rw e refl
 legacy_w : (st : PrefixState) → st.vex ≡ None → shared_bit (λ v. v.w) 3 st ≡ rex_bit 3 st.rex
 legacy_w st e = rw e refl
 
+-- so is W
 pub w_plain : (bits : Bits) (row : Row) (i : Instr) → only_if (needs_w row) (shared_bit (λ v. v.w) 3 (plain_front_of bits row i)) ≡ true
 w_plain bits row i =
     let p = plain_front_of bits row i in
@@ -167,6 +177,7 @@ rex_by false false false false true low ops h = refl
 rex_by false false false false false true ops h = h
 rex_by false false false false false false ops h = refl
 
+-- a plain REX is needed
 pub rex_plain : (row : Row) (i : Instr) → NeedsAre row i → rex_is_needed (asked_rex row i) i.ops ≡ true
 unfolding asked_rex
 rex_plain row i n = rex_by (is_vex_row row) (asks_rex_w row) (asks_r row i) (asks_x row i) (asks_b row i) (asks_low_byte i.ops) i.ops n.low
@@ -184,12 +195,14 @@ by_vex : {T : Type 0} → (P : Option T → Type 0) (o : Option T) (vex : Bool) 
 by_vex P o true v h k some none = subst P (sym (h refl)) some
 by_vex P o false v h k some none = subst P (sym (k refl)) none
 
+-- a plain VEX has two bytes if these are enough
 pub vex_plain : (row : Row) (i : Instr) → vex_is_short (asked_vex row i) ≡ true
 unfolding vex_is_short
 vex_plain row i =
     by_vex (λ o. vex_is_short o ≡ true) (asked_vex row i) (is_vex_row row) (vex_for row i) (vex_of_vex row i) (vex_of_legacy row i)
     (short_by (same_map row.map M0f) (asks_x row i) (asks_b row i) (asks_vex_w row)) refl
 
+-- its L is needed
 pub l_plain : (row : Row) (i : Instr) → l_is_needed row (asked_vex row i) ≡ true
 unfolding l_is_needed
 l_plain row i =
@@ -200,6 +213,7 @@ long_or : (long : Bool) (n : ℕ) → (long ≡ false → n < 8) → (long || na
 long_or true n h = refl
 long_or false n h = lt-ltb n 8 (h refl)
 
+-- its vvvv is read, or has all bits set
 pub vvvv_plain : (bits : Bits) (row : Row) (i : Instr) → fit.NumbersSuit bits row i → vvvv_is_read bits (asked_vex row i) ≡ true
 unfolding vvvv_is_read
 vvvv_plain bits row i n =

@@ -433,6 +433,7 @@ pub record FrontSame (bits : Bits) (row : Row) (s : Spelling) (i : Instr) : Type
   pub vex : s.vex ≡ asked_vex row i
   pub opcode : s.opcode ≡ asked_opcode row i
 
+-- a plain spelling has the plain front
 pub front_same : (bits : Bits) (ip : ℕ) (code : Code) (row : Row) (s : Spelling) (i : Instr) → Given bits ip code row s i → length i.ops ≡ 4 → IsPlain bits ip row s → FrontSame bits row s i
 front_same bits ip code row s i g four p = record {
   prefixes = p.prefixes ∙ needed_are bits row (state_of bits row s) s.modrm i (state_is bits row s g.fitting) (keeps_of bits ip code row s i g) (rex_same bits ip code row s i g p);

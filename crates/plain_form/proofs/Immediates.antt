@@ -34,6 +34,7 @@ Narrow size method.Extended n = 8 * n ≤ width size
 Narrow size method.Near n = 8 * n ≤ width size
 Narrow size _ n = Unit {0}
 
+-- an immediate is no wider than its kind
 pub narrow_kind : (size : Bits) (kind : OpKind) → Narrow size (method_of kind) (immediate_bytes size kind)
 unfolding method_of immediate_width immediate_bytes
 narrow_kind size Ibs = of_each_size (λ s. 8 * immediate_bytes s Ibs ≤ width s) (omega arith) (omega arith) (omega arith) size

@@ -103,9 +103,11 @@ nothing_there bits ip code row s i g t none far = go row.modrm refl
     go (Digit d) e = lone d (modrm_digit bits row i d e)
     go (FixedByte b) e = with_modrm bits ip code row s i _ g (t.modrm ∙ modrm_fixed bits row i b e) (register_bytes (spelled_asize bits row s) _ s.sib (fixed_mode_is row b g.is_sound e))
 
+-- what is read in r/m can be an address
 pub rm_is_address : (how : Method) → reads_rm how ≡ true → reads_address how ≡ true
 rm_is_address how h = rw h refl
 
+-- so can an offset
 pub offset_is_address : (how : Method) → is_offset how ≡ true → reads_address how ≡ true
 offset_is_address method.Offset h = refl
 offset_is_address _ h = impossible (sym h)
@@ -232,8 +234,10 @@ four_of_meaning : (bits : Bits) (ip : ℕ) (code : Code) (row : Row) (s : Spelli
 unfolding meaning instr_of
 four_of_meaning bits ip code row s = refl
 
+-- a meaning has four operands
 pub four_of : (bits : Bits) (ip : ℕ) (row : Row) (s : Spelling) (i : Instr) → meaning bits ip i.code row s ≡ i → length i.ops ≡ 4
 four_of bits ip row s i e = subst (λ (x : Instr). length x.ops ≡ 4) e (four_of_meaning bits ip i.code row s)
 
+-- what is given of a spelling that means an instruction
 pub given_from : (bits : Bits) (ip : ℕ) (row : Row) (s : Spelling) (i : Instr) → Sound row → Writable bits row → fits bits row s ≡ true → meaning bits ip i.code row s ≡ i → Given bits ip i.code row s i
 given_from bits ip row s i sound w f e = record { is_sound = sound; is_writable = w; fitting = all_conditions bits row s f; means = e }

@@ -44,6 +44,7 @@ plain_w_rex : (row : Row) (i : Instr) → is_vex_row row ≡ false → w_of (ask
 unfolding asked_vex
 plain_w_rex row i e = let k : rex_bit 3 (asked_rex row i) ≡ asks_rex_w row = plain_rex_w row i ∙ (rw e) in rw e k
 
+-- W of the plain front is that of the row
 pub plain_bit_w : (bits : Bits) (row : Row) (i : Instr) → bit_w bits (plain_front_of bits row i) ≡ plain_w bits row
 unfolding bit_w plain_front_of plain_w
 plain_bit_w bits row i = elim (cases_Bool (is_vex_row row)) [

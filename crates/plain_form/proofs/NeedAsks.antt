@@ -42,9 +42,11 @@ each_read Q bits code row st t imm four h =
 
 -- ---- at most one operand
 
+-- a part that one operand may read is read by one at most
 pub one_reader : (p : Method → Bool) (row : Row) → at_most_one p row ≡ true → readers p row.ops ≤ 1
 one_reader p row h = leb-true _ 1 h
 
+-- a part that no kind reads has no readers
 pub no_readers : (p : Method → Bool) (kinds : List OpKind) → list_any (λ kind. p (method_of kind)) kinds ≡ false → readers p kinds ≡ 0
 no_readers p [] h = refl
 no_readers p (kind ∷ kinds) h = elim (cases_Bool (p (method_of kind))) [
@@ -52,6 +54,7 @@ no_readers p (kind ∷ kinds) h = elim (cases_Bool (p (method_of kind))) [
   | inr e ↦ (let k : list_any (λ kind. p (method_of kind)) kinds ≡ false = rw e at h in rw e (let n = no_readers p kinds k in omega arith))
 ]
 
+-- the readers of two parts together
 pub readers_or : (p q : Method → Bool) (kinds : List OpKind) → readers (λ m. p m || q m) kinds ≤ readers p kinds + readers q kinds
 readers_or p q [] = omega arith
 readers_or p q (kind ∷ kinds) =
@@ -71,6 +74,7 @@ pub record Apart (row : Row) : Type 0 where
   pub last : readers reads_last_byte row.ops ≤ 1
   pub offset : readers is_offset row.ops ≤ 1
 
+-- the operands of a proper row are read in parts of their own
 pub apart : (row : Row) → operands_are_apart row ≡ true → Apart row
 unfolding operands_are_apart
 apart row h =
@@ -109,6 +113,7 @@ adds_by PlusRegister o h e = refl
 adds_by NoPlus o h e = let n = not-true o h in cc
 adds_by PlusStack o h e = let n = not-true o h in cc
 
+-- each in a place that the row has
 pub placed : (row : Row) → operands_are_proper row ≡ true → plus_is_proper row ≡ true → Placed row
 unfolding operands_are_proper plus_is_proper
 placed row h k =
@@ -127,6 +132,7 @@ placed row h k =
       legacy = λ e. not-true (is_vex_row row) (and_parts (not (is_vex_row row)) tested (proper e)).0;
     }
 
+-- a test does not hold and fail
 pub differ : (b : Bool) → b ≡ true → b ≡ false → ⊥
 differ b h k = let e : zero ≡ suc zero = cc in absurd (omega arith)
 
@@ -145,21 +151,25 @@ one_of_b row a p =
 
 -- ---- what is not read from a field asks nothing of it
 
+-- an operand that is not read in reg asks for nothing there
 pub silent_reg : (op : Operand) (how : Method) → reads_reg how ≡ false → number_in_reg how op ≡ 0
 unfolding number_in_reg
 silent_reg op method.ModRmReg h = cc
 silent_reg op _ h = refl
 
+-- the same of vvvv
 pub silent_vvvv : (op : Operand) (how : Method) → is_vvvv how ≡ false → number_in_vvvv how op ≡ 0
 unfolding number_in_vvvv
 silent_vvvv op method.Vvvv h = cc
 silent_vvvv op _ h = refl
 
+-- of the opcode byte
 pub silent_opcode : (op : Operand) (how : Method) → reads_opcode how ≡ false → number_in_opcode how op ≡ 0
 unfolding number_in_opcode
 silent_opcode op method.OpcodeLow h = cc
 silent_opcode op _ h = refl
 
+-- of r/m
 pub silent_rm : (op : Operand) (how : Method) → (reads_rm how || reads_opcode how) ≡ false → number_in_rm how op ≡ 0
 unfolding number_in_rm
 silent_rm op method.RegisterOrMemory h = cc
@@ -170,6 +180,7 @@ silent_rm op method.Gather h = cc
 silent_rm op method.OpcodeLow h = cc
 silent_rm op _ h = refl
 
+-- and of the index of a SIB
 pub silent_index : (bits : Bits) (row : Row) (st : PrefixState) (t : Tail) (kind : OpKind) (how : Method) (imm : List ℕ) → reads_rm how ≡ false → number_in_index how (operand_by bits row st t kind how imm) ≡ 0
 unfolding number_in_index operand_by memory_absolute near_target far_pointer
 silent_index bits row st t kind method.RegisterOrMemory imm h = cc
@@ -265,6 +276,7 @@ pub record AskedBits (bits : Bits) (row : Row) (st : PrefixState) (i : Instr) : 
   pub b : asks_b row i ≡ true → bit_b bits st ≡ true
   pub low : asks_low_byte i.ops ≡ true → is_some st.rex ≡ true
 
+-- the bits that a meaning asks for are those of its front
 pub asked_bits : (bits : Bits) (code : Code) (row : Row) (st : PrefixState) (t : Tail) (imm : List ℕ) → Sound row → InRange t → AskedBits bits row st (instr_of bits code row st t imm)
 unfolding asks_r asks_x asks_b
 asked_bits bits code row st t imm sound r =

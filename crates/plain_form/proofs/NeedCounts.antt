@@ -103,6 +103,7 @@ count_repeat_small NoRep = omega arith
 count_repeat_small RepF2 = omega arith
 count_repeat_small RepF3 = omega arith
 
+-- the repeat prefix that counts is one of the prefixes
 pub repeat_counted : (xs : List ℕ) → count_repeat (counting_repeat xs) ≤ bit (list_any is_repeat xs)
 unfolding counting_repeat
 repeat_counted xs =
@@ -127,6 +128,7 @@ no_segment_byte B16 xs h = last_where_none is_segment xs h
 no_segment_byte B32 xs h = last_where_none is_segment xs h
 no_segment_byte B64 xs h = rw (last_where_none is_fs_or_gs xs (any_weaker is_fs_or_gs is_segment fs_or_gs_weaker xs h), last_where_none is_segment xs h)
 
+-- so is the segment prefix
 pub segment_counted : (bits : Bits) (xs : List ℕ) → bit (is_some (counting_segment bits xs)) ≤ bit (list_any is_segment xs)
 unfolding counting_segment
 segment_counted bits xs =
@@ -148,6 +150,7 @@ rex_none B16 xs h = refl
 rex_none B32 xs h = refl
 rex_none B64 xs h = last_if_none is_rex xs h
 
+-- so is the REX
 pub rex_counted : (bits : Bits) (xs : List ℕ) → bit (is_some (counting_rex bits xs)) ≤ bit (list_any is_rex xs)
 rex_counted bits xs =
     no_bits (bit (is_some (counting_rex bits xs))) (list_any is_rex xs)

@@ -253,6 +253,7 @@ pub record ShortVex (v : Vex) : Type 0 where
   pub w : v.w ≡ false
   pub map : same_map v.map M0f ≡ true
 
+-- a two-byte VEX has the fields that it cannot state
 pub short_vex_is : (v : Vex) → vex_in_range (Some v) ≡ true → v.three ≡ false → ShortVex v
 unfolding vex_in_range
 short_vex_is v h e =
@@ -303,10 +304,12 @@ if_true : (t a b : Bool) → t ≡ true → (if t then a else b) ≡ true → a 
 if_true true a b n h = h
 if_true false a b n h = cc
 
+-- a proper VEX row states its VEX
 pub vex_proper : (row : Row) → kind_is_proper row ≡ true → is_vex_row row ≡ true → vex_is_proper row ≡ true
 unfolding kind_is_proper
 vex_proper row h v = if_true (is_vex_row row) (vex_is_proper row) (legacy_is_proper row) v h
 
+-- and its W
 pub vex_says_w : (row : Row) → vex_is_proper row ≡ true → size_says_w row.size row.w ≡ true
 unfolding vex_is_proper
 vex_says_w row h =

@@ -73,12 +73,15 @@ all_left xs ys h = (and_parts (are_bytes xs) (are_bytes ys) (sym (list_all-appen
 all_right : (xs ys : List ℕ) → are_bytes (xs ++ ys) ≡ true → are_bytes ys ≡ true
 all_right xs ys h = (and_parts (are_bytes xs) (are_bytes ys) (sym (list_all-append (λ b. nat_lt b 256) xs ys) ∙ h)).1
 
+-- the first of some bytes are bytes
 pub bytes-take : (n : ℕ) (xs : List ℕ) → are_bytes xs ≡ true → are_bytes (take n xs) ≡ true
 bytes-take n xs h = all_left (take n xs) (drop n xs) (ap (λ (l : List ℕ). are_bytes l) (take-append-drop n xs) ∙ h)
 
+-- so are the others
 pub bytes-drop : (n : ℕ) (xs : List ℕ) → are_bytes xs ≡ true → are_bytes (drop n xs) ≡ true
 bytes-drop n xs h = all_right (take n xs) (drop n xs) (ap (λ (l : List ℕ). are_bytes l) (take-append-drop n xs) ∙ h)
 
+-- so are those of one operand
 pub own-bytes : (size : Bits) (row : Row) (n : ℕ) (imm : List ℕ) → are_bytes imm ≡ true → are_bytes (own_immediate size row n imm) ≡ true
 unfolding own_immediate
 own-bytes size row n imm h =
@@ -104,6 +107,7 @@ by_size row method.Extended T h f = f h
 by_size row method.Near T h f = f h
 by_size row _ T h f = tt
 
+-- an immediate by size has the operand size
 pub size-at : (bits : Bits) (ip : ℕ) (code : Code) (row : Row) (s : Spelling) (i : Instr) (n : ℕ) → Given bits ip code row s i → BySize (method_of (kind_at row n)) (state_size bits row (state_of bits row s) ≡ plain_size bits row)
 size-at bits ip code row s i n g =
     by_size row (method_of (kind_at row n)) _ (value-at-told row g.is_writable.told n)
@@ -132,6 +136,7 @@ read_suits bits row st t kind size k method.Pointer own e short h b told = point
 read_suits bits row st t kind size k method.One own e short h b told = refl
 read_suits bits row st t kind size k _ own e short h b told = refl
 
+-- an operand has as many bytes of the immediates as its kind says
 pub own-length-at : (bits : Bits) (ip : ℕ) (code : Code) (row : Row) (s : Spelling) (i : Instr) (n : ℕ) → Given bits ip code row s i → n < 4 → length (own_immediate (state_size bits row (state_of bits row s)) row n s.imm.items) ≡ immediate_bytes (plain_size bits row) (kind_at row n)
 own-length-at bits ip code row s i n g below =
     own-length (state_size bits row (state_of bits row s)) row n s.imm.items below (immediates_length bits row s g.fitting.lengths)

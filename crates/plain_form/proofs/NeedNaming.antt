@@ -44,6 +44,7 @@ use Rattle.plain_form.proofs.NeedAgreeing.{same_file, number_back}
 
 -- ---- numbers of the mode
 
+-- a number of three bits with an extending bit is one that the mode has
 pub extended_count : (bits : Bits) (b : Bool) (n : ℕ) → n < 8 → (is_64 bits ≡ false → b ≡ false) → with_high_bit b n < register_count bits
 unfolding register_count
 extended_count B64 true n h k = omega arith
@@ -65,12 +66,14 @@ vex_mode_r : (bits : Bits) (v : Vex) → is_vex_of_mode bits v ≡ true → is_6
 unfolding is_vex_of_mode
 vex_mode_r bits v h e = not-true v.r (and_parts (not v.r) _ (or_right (is_64 bits) _ e h)).0
 
+-- outside 64-bit mode R is not set
 pub bit_r_mode : (bits : Bits) (row : Row) (st : PrefixState) → StateIs bits row st → is_64 bits ≡ false → bit_r st ≡ false
 bit_r_mode bits row st f m = elim (cases_Bool (is_vex_row row)) [
   | inl e ↦ (let x = f.vex e in bit_r_vex st x.v x.stands ∙ vex_mode_r bits x.v x.mode m)
   | inr e ↦ bit_r_none st (f.legacy e) (f.rex_mode m)
 ]
 
+-- nor is B
 pub bit_b_mode : (bits : Bits) (st : PrefixState) → is_64 bits ≡ false → bit_b bits st ≡ false
 unfolding bit_b
 bit_b_mode bits st m = rw m
@@ -99,6 +102,7 @@ small_count B64 n h = omega arith
 small_count B32 n h = h
 small_count B16 n h = h
 
+-- the number in vvvv is one that the mode has
 pub vvvv_count : (bits : Bits) (row : Row) (st : PrefixState) → StateIs bits row st → vvvv_number bits st < register_count bits
 vvvv_count bits row st f = elim (cases_Bool (is_vex_row row)) [
   | inl e ↦ (let x = f.vex e in subst (λ (n : ℕ). n < register_count bits) (sym (vvvv_vex bits st x.v x.stands)) (vvvv_by bits x.v.vvvv (vvvv_small x.v x.range)))
@@ -109,10 +113,12 @@ first_small : (bytes : List ℕ) → are_bytes bytes ≡ true → slice_index by
 first_small [] h = omega arith
 first_small (b ∷ bytes) h = ltb-true b 256 (and_parts (nat_lt b 256) _ h).0
 
+-- so is the number in the last byte
 pub last_count : (bits : Bits) (bytes : List ℕ) → are_bytes bytes ≡ true → last_byte_number bits bytes < register_count bits
 unfolding last_byte_number
 last_count bits bytes h = let k = first_small bytes h in vvvv_by bits (slice_index bytes 0 / 16) (omega arith)
 
+-- a fixed register has a number of at most 5
 pub fixed_at_most : (kind : OpKind) → fixed_number kind ≤ 5
 unfolding fixed_number
 fixed_at_most Cl = omega arith
@@ -124,6 +130,7 @@ fixed_at_most Fs = omega arith
 fixed_at_most Gs = omega arith
 fixed_at_most _ = omega arith
 
+-- which every mode has
 pub fixed_count : (bits : Bits) (kind : OpKind) → fixed_number kind < register_count bits
 fixed_count bits kind = small_count bits (fixed_number kind) (let h = fixed_at_most kind in omega arith)
 
@@ -275,6 +282,7 @@ number_of_rm method.AnyMode r h = refl
 number_of_rm method.OpcodeLow r h = refl
 number_of_rm _ r h = cc
 
+-- a byte register in r/m has the number of r/m and B
 pub rm_byte : (bits : Bits) (row : Row) (st : PrefixState) (i : Instr) (n number : ℕ) (how : Method) → Context bits row st i n → asks_b_of_register how ≡ true → method_of (kind_at row n) ≡ how → operand_at i n ≡ Reg (register_of bits row st (file_of (kind_at row n)) number) → file_of (kind_at row n) ≡ file.Byte → is_vex_row row ≡ false → asked_rex row i ≡ None → number < 8
 rm_byte bits row st i n number how c b e k f l none =
     let part = rm_part bits row st i n how _ c e k in
@@ -293,6 +301,7 @@ unfolding register_of
 low_byte_is bits row st file.Byte n e h = byte_with_rex st.rex n h
 low_byte_is bits row st _ n e h = cc
 
+-- a front with a REX is that of a legacy row
 pub legacy_of : (bits : Bits) (row : Row) (st : PrefixState) → StateIs bits row st → is_some st.rex ≡ true → is_vex_row row ≡ false
 legacy_of bits row st f h = elim (cases_Bool (is_vex_row row)) [
   | inr e ↦ e

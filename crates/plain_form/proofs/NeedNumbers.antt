@@ -29,12 +29,14 @@ use Rattle.plain_spelling.specs.PlainFront.{register_number, number_or_zero, bas
 
 -- ---- registers
 
+-- a general register has the number that it is made from
 pub number-general_register : (size : Bits) (n : ℕ) → register_number (general_register size n) ≡ n
 unfolding register_number general_register
 number-general_register B16 n = refl
 number-general_register B32 n = refl
 number-general_register B64 n = refl
 
+-- so has a vector register
 pub number-vector : (l : LBit) (n : ℕ) → register_number (vector l n) ≡ n
 unfolding register_number vector
 number-vector NoL n = refl
@@ -48,11 +50,13 @@ unfolding register_number
 byte_by_test n true e = refl
 byte_by_test n false e = let h : 4 ≤ n = ltb-false n 4 e in omega arith
 
+-- so has a byte register
 pub number-byte : (rex : Option ℕ) (n : ℕ) → register_number (byte_register rex n) ≡ n
 unfolding register_number byte_register
 number-byte (Some rex) n = refl
 number-byte None n = byte_by_test n (nat_lt n 4) refl
 
+-- the number of a segment register is at most the one that it is made from
 pub segment_numbered-below : (n : ℕ) → n < 8 → segment_number (segment_numbered n) ≤ n
 unfolding segment_numbered
 segment_numbered-below zero h = omega arith
@@ -90,13 +94,16 @@ number-le bits row st file.Vector n = let e = number-vector row.l n in omega ari
 abbrev pub Needs : Bool → ℕ → Type 0
 Needs b n = nat_le 8 n ≡ true → b ≡ true
 
+-- a number below 8 needs no extending bit
 pub needs_small : (b : Bool) (n : ℕ) → n < 8 → Needs b n
 needs_small b n h = λ e. let k : 8 ≤ n = leb-true 8 n e in absurd (omega arith)
 
+-- a smaller number needs no more
 pub needs_le : (b : Bool) (n m : ℕ) → n ≤ m → m < 8 + 8 * (if b then 1 else 0) → Needs b n
 needs_le true n m h k = λ e. refl
 needs_le false n m h k = needs_small false n (omega arith)
 
+-- three bits with an extending bit need at most that bit
 pub extended_needs : (b : Bool) (n : ℕ) → n < 8 → with_high_bit b n < 8 + 8 * (if b then 1 else 0)
 extended_needs true n h = omega arith
 extended_needs false n h = omega arith
@@ -106,29 +113,34 @@ pub register_needs : (bits : Bits) (row : Row) (st : PrefixState) (f : File) (b 
 register_needs bits row st f b n h =
     needs_le b _ (with_high_bit b n) (number-le bits row st f (with_high_bit b n)) (extended_needs b n h)
 
+-- so does a general register of that number
 pub general_needs : (size : Bits) (b : Bool) (n : ℕ) → n < 8 → Needs b (register_number (general_register size (with_high_bit b n)))
 general_needs size b n h =
     needs_le b _ (with_high_bit b n) (let e = number-general_register size (with_high_bit b n) in omega arith) (extended_needs b n h)
 
 -- ---- fields
 
+-- the field reg is below 8
 pub reg_small : (m : Option ModRm) → modrm_in_range m ≡ true → reg_field m < 8
 unfolding modrm_in_range
 reg_small None h = omega arith
 reg_small (Some m) h =
     ltb-true m.reg 8 (and_parts (nat_lt m.reg 8) (nat_lt m.rm 8) (and_parts (nat_lt m.mode3 4) (nat_lt m.reg 8 && nat_lt m.rm 8) h).1).0
 
+-- so is the field r/m
 pub rm_small : (m : Option ModRm) → modrm_in_range m ≡ true → rm_field m < 8
 unfolding modrm_in_range
 rm_small None h = omega arith
 rm_small (Some m) h =
     ltb-true m.rm 8 (and_parts (nat_lt m.reg 8) (nat_lt m.rm 8) (and_parts (nat_lt m.mode3 4) (nat_lt m.reg 8 && nat_lt m.rm 8) h).1).1
 
+-- so is the index of a SIB
 pub sib_index_small : (s : Sib) → sib_in_range (Some s) ≡ true → s.index < 8
 unfolding sib_in_range
 sib_index_small s h =
     ltb-true s.index 8 (and_parts (nat_lt s.index 8) (nat_lt s.base 8) (and_parts (nat_lt s.scale 4) (nat_lt s.index 8 && nat_lt s.base 8) h).1).0
 
+-- so is its base
 pub sib_base_small : (s : Sib) → sib_in_range (Some s) ≡ true → s.base < 8
 unfolding sib_in_range
 sib_base_small s h =
@@ -136,6 +148,7 @@ sib_base_small s h =
 
 -- ---- addresses
 
+-- what holds of both values of a choice holds of the choice
 pub if_holds : {T : Type 0} → (P : T → Type 0) (test : Bool) (x y : T) → P x → P y → P (if test then x else y)
 if_holds P true x y hx hy = hx
 if_holds P false x y hx hy = hy
@@ -205,6 +218,7 @@ wide-needs bits asize st m None next disp h r =
     if_holds (AddressNeeds (bit_b bits st) (bit_x st)) (m.mode3 == 0 && m.rm == 5) _ _ (alone-needs (bit_b bits st) (bit_x st) bits asize next disp)
     (at_base-needs bits asize (bit_x st) st m disp h)
 
+-- a memory operand needs at most the bits that it is read with
 pub memory-needs : (bits asize : Bits) (st : PrefixState) (m : ModRm) (sib : Option Sib) (next : ℕ) (disp : List ℕ) → m.rm < 8 → sib_in_range sib ≡ true → AddressNeeds (bit_b bits st) (bit_x st) (memory_of bits asize st m sib next disp)
 unfolding memory_of
 memory-needs bits B16 st m sib next disp h r = memory_16-needs (bit_b bits st) (bit_x st) m disp

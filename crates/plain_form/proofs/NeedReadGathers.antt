@@ -132,6 +132,7 @@ pub record IsAbsolute (asize : Bits) (m : Mem) (n : ℕ) : Type 0 where
   pub shown : agrees asize (shown_size m) ≡ true
   pub count : displacement_count m.disp_size ≡ n
 
+-- a read absolute address is one
 pub absolute_read : (asize : Bits) (d : List ℕ) → length d ≡ size_bytes asize → are_bytes d ≡ true → IsAbsolute asize (memory_absolute asize d) (length d)
 unfolding memory_absolute form_of is_displacement size_agrees told_size shown_size displacement_count disp_size_of
 absolute_read B16 d l b = record { shape = refl; value = rw l (value_of B16 d 2 l (omega arith) b); size = refl; shown = refl; count = rw l refl }

@@ -163,6 +163,7 @@ memory_is bits row st t kind _ imm g = refl
 
 -- ---- what an operand that fits says
 
+-- a fitting operand has a suitable shape
 pub shape_of_fits : (bits asize : Bits) (row : Row) (how : Method) (file : File) (n : ℕ) (op : Operand) → OperandFits bits asize row how file n op → (elim op [ MemOperand m ↦ shape_suits bits row how file m | _ ↦ true ]) ≡ true
 shape_of_fits bits asize row how file n (MemOperand m) f = f.shape
 shape_of_fits bits asize row how file n _ f = refl
@@ -173,15 +174,18 @@ written_fits bits asize row how file n m o e f =
     let w : written_size bits o m ≡ asize = ap (λ (x : Option Bits). written_size bits x m) e ∙ written_is bits asize m f.shown in
     rw w (rw (f.offer, f.value) refl)
 
+-- its displacement is one that its shape offers
 pub offer_of_fits : (bits asize : Bits) (row : Row) (how : Method) (file : File) (n : ℕ) (op : Operand) (o : Option Bits) → (is_memory op ≡ true → o ≡ Some asize) → OperandFits bits asize row how file n op → (elim op [ MemOperand m ↦ displacement_suits (written_size bits o m) how m | _ ↦ true ]) ≡ true
 offer_of_fits bits asize row how file n (MemOperand m) o e f = written_fits bits asize row how file n m o (e refl) f
 offer_of_fits bits asize row how file n _ o e f = refl
 
+-- it agrees with the address size
 pub size_of_fits : (bits asize : Bits) (row : Row) (how : Method) (file : File) (n : ℕ) (op : Operand) → OperandFits bits asize row how file n op → size_agrees asize op ≡ true
 unfolding size_agrees
 size_of_fits bits asize row how file n (MemOperand m) f = f.size
 size_of_fits bits asize row how file n _ f = refl
 
+-- its displacement has no more bytes than are there
 pub count_of_fits : (bits asize : Bits) (row : Row) (how : Method) (file : File) (n : ℕ) (op : Operand) → OperandFits bits asize row how file n op → operand_displacement op ≤ n
 count_of_fits bits asize row how file n (MemOperand m) f = (let e = f.count in omega arith)
 count_of_fits bits asize row how file n _ f = omega arith

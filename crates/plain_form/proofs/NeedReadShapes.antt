@@ -50,6 +50,7 @@ pub record Named (rm : ℕ) : Type 0 where
   pub base_is : base_16 rm ≡ R16 first
   pub rm_is : rm_of_short first (index_16 rm) ≡ Some rm
 
+-- each of the eight values of r/m names a 16-bit address
 pub named : (rm : ℕ) → rm < 8 → Named rm
 unfolding base_16 index_16 rm_of_short rm_of_one rm_of_two
 named zero h = record { first = 3; base_is = refl; rm_is = refl }
@@ -148,10 +149,12 @@ pointer_read B64 B64 next d wide l b = record { shape = refl; offer = refl; valu
 
 -- ---- numbers from fields
 
+-- the low three bits of an extended number
 pub extended_low : (b : Bool) (x : ℕ) → x < 8 → with_high_bit b x % 8 ≡ x
 extended_low true x h = omega arith
 extended_low false x h = omega arith
 
+-- an extended number is one that the mode has
 pub extended_count : (bits : Bits) (b : Bool) (x : ℕ) → x < 8 → (is_64 bits ≡ false → b ≡ false) → nat_lt (with_high_bit b x) (register_count bits) ≡ true
 unfolding register_count
 extended_count B64 true x h e = lt-ltb (8 + x) 16 (omega arith)
@@ -161,6 +164,7 @@ extended_count B32 false x h e = lt-ltb (0 + x) 8 (omega arith)
 extended_count B16 true x h e = impossible (e refl)
 extended_count B32 true x h e = impossible (e refl)
 
+-- outside 64-bit mode B is not set
 pub bit_b-outside : (bits : Bits) (st : PrefixState) → is_64 bits ≡ false → bit_b bits st ≡ false
 unfolding bit_b
 bit_b-outside bits st e = rw e refl
@@ -264,6 +268,7 @@ pub record SibSmall (s : Sib) : Type 0 where
   pub index : s.index < 8
   pub base : s.base < 8
 
+-- the fields of a SIB in range, one by one
 pub sib_small : (s : Sib) → sib_in_range (Some s) ≡ true → SibSmall s
 unfolding sib_in_range
 sib_small s h =
@@ -274,6 +279,7 @@ sib_small s h =
       base = ltb-true s.base 8 (and_parts (nat_lt s.index 8) (nat_lt s.base 8) rest).1;
     }
 
+-- 2 to a scale field is a scale
 pub scale_power : (k : ℕ) → k < 4 → is_scale (2 ^ k) ≡ true
 scale_power zero h = refl
 scale_power (suc zero) h = refl
@@ -288,6 +294,7 @@ with_parts bits asize st given base index m s d eb ei =
     ap (λ (b : Option Register). address b given (scale_of given s) (displacement asize d) (disp_size_of (length d))) eb
     ∙ ap (λ (i : Option Register). address base i (scale_of i s) (displacement asize d) (disp_size_of (length d))) ei
 
+-- a SIB is there only if r/m is 4
 pub rm_is_four : (asize : Bits) (m : ModRm) → needs_sib asize m ≡ true → m.rm ≡ 4
 unfolding needs_sib
 rm_is_four asize m h = eqb-true m.rm 4 (and_parts (nat_lt m.mode3 3) (m.rm == 4) (and_parts (not (is_16 asize)) (nat_lt m.mode3 3 && m.rm == 4) h).1).1

@@ -40,6 +40,7 @@ use Rattle.plain_form.proofs.NeedReadOperands.{TailReads}
 
 -- ---- the state
 
+-- the address size of a mode is one that it has
 pub has_size : (bits : Bits) (given : Bool) → has_address_size bits (address_size bits given) ≡ true
 unfolding has_address_size address_size
 has_size B16 true = refl
@@ -143,6 +144,7 @@ no_rule plus AnyModRm m h e = cc
 no_rule plus (Digit d) m h e = cc
 no_rule plus (FixedByte b) m h e = cc
 
+-- a ModRM that fits with the opcode byte fits the row's rule
 pub rule_of : (row : Row) (opcode : ℕ) (m : Option ModRm) → opcode_and_modrm_fit row opcode m ≡ true → modrm_rule_fits row.plus row.modrm m ≡ true
 unfolding opcode_and_modrm_fit
 rule_of row opcode m h = (and_parts (modrm_rule_fits row.plus row.modrm m) (place_fits row m) (and_parts (opcode_fits row opcode) (modrm_rule_fits row.plus row.modrm m && place_fits row m) h).1).0

@@ -86,18 +86,21 @@ allowed bits row st m n _ number small h w e = refl
 
 -- ---- the opcode byte 90
 
+-- a register in the opcode byte has its low three bits and B as its number
 pub opcode_number : (bits : Bits) (row : Row) (st : PrefixState) (kind : OpKind) (n : ℕ) → method_of kind ≡ method.OpcodeLow → register_number (register_of bits row st (file_of kind) n) ≡ n
 unfolding method_of file_of register_of
 opcode_number bits row st Zb n e = number-byte st.rex n
 opcode_number bits row st Zv n e = number-general_register (state_size bits row st) n
 opcode_number bits row st _ n e = cc
 
+-- the opcode byte is one of the row's eight
 pub opcode_range : (row : Row) (o : ℕ) → row.plus ≡ PlusRegister → opcode_fits row o ≡ true → (row.opcode ≤ o) × (o < row.opcode + 8)
 unfolding opcode_fits
 opcode_range row o e h =
     let k : (nat_le row.opcode o && nat_lt o (row.opcode + 8)) ≡ true = rw e at h in
     (leb-true row.opcode o (and_parts (nat_le row.opcode o) _ k).0, ltb-true o (row.opcode + 8) (and_parts (nat_le row.opcode o) _ k).1)
 
+-- XCHG of EAX with itself is spelled with B alone: 90 is NOP, and F3 90 is PAUSE
 pub nop_b : (bits : Bits) (row : Row) (st : PrefixState) → row.plus ≡ PlusRegister → nop_fits bits row st ≡ true → (bit_b bits st ≡ true) × (is_repeat_f3 st.rep ≡ false)
 unfolding nop_fits
 nop_b bits row st e h =
@@ -197,6 +200,7 @@ rm_named bits row st t i n own how r e b no_fixed no_reg nop op =
     (λ f l k none. rm_byte bits row st i n _ how r.context b e op f l none)
     (λ k. absurd (let z = no_fixed k in omega arith)) (λ k. absurd (let z = no_reg k in omega arith)) (nop _)
 
+-- an operand by where it is read
 pub by_method : (bits : Bits) (row : Row) (st : PrefixState) (t : Tail) (i : Instr) (n : ℕ) (own : List ℕ) (how : Method) → Reading bits row st t i n own → method_of (kind_at row n) ≡ how → operand_at i n ≡ operand_by bits row st t (kind_at row n) how own → NameableIf bits row i n (operand_at i n)
 unfolding operand_by is_not_nop reg_number near_target far_pointer
 by_method bits row st t i n own method.ModRmReg r e op =

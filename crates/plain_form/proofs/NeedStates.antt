@@ -74,6 +74,7 @@ vex_at bits row ps (Some v) opcode m h l =
       mode = (and_parts (not (forbids_vex bits ps)) (is_vex_of_mode bits v) rest).1;
     }
 
+-- the VEX of a spelling in range is in range
 pub vex_range : (s : Spelling) → fields_in_range s ≡ true → vex_in_range s.vex ≡ true
 unfolding fields_in_range
 vex_range s h =
@@ -92,10 +93,12 @@ pub state_vex : (bits : Bits) (row : Row) (s : Spelling) → (state_of bits row 
 unfolding state_of state_from
 state_vex bits row s = refl
 
+-- the REX of a state is the one that counts
 pub state_rex : (bits : Bits) (row : Row) (s : Spelling) → (state_of bits row s).rex ≡ counting_rex bits s.prefixes.items
 unfolding state_of state_from
 state_rex bits row s = refl
 
+-- its opcode byte is that of the spelling
 pub state_opcode : (bits : Bits) (row : Row) (s : Spelling) → (state_of bits row s).opcode ≡ s.opcode
 unfolding state_of state_from
 state_opcode bits row s = refl
@@ -119,6 +122,7 @@ sizes_w bits row st v h e =
     let l : (w_fits row v && l_fits row.l v) ≡ true = rw e at k in
     (and_parts (w_fits row v) (l_fits row.l v) l).0
 
+-- the state of a fitting spelling has fields that go together
 pub state_is : (bits : Bits) (row : Row) (s : Spelling) → Fits bits row s → StateIs bits row (state_of bits row s)
 state_is bits row s f =
     let st = state_of bits row s in

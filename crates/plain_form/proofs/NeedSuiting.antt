@@ -64,6 +64,7 @@ four_read bits ip code row s = refl
 abbrev own_of : Bits → Row → Spelling → ℕ → List ℕ
 own_of bits row s n = own_immediate (state_size bits row (state_of bits row s)) row n s.imm.items
 
+-- what is known of an operand that is read
 pub reading : (bits : Bits) (ip : ℕ) (code : Code) (row : Row) (s : Spelling) (i : Instr) (n : ℕ) → Given bits ip code row s i → n < 4 → Reading bits row (state_of bits row s) (tail_of bits ip row s) i n (own_of bits row s n)
 reading bits ip code row s i n g h =
     let same = read_is bits ip code row s i g in

@@ -25,13 +25,16 @@ use Rattle.plain_form.proofs.NeedFront.{needs_66, needs_67, needs_rex, needs_rep
 abbrev pub read : Bits → ℕ → Code → Row → Spelling → Instr
 read bits ip code row s = instr_of bits code row (state_of bits row s) (tail_of bits ip row s) s.imm.items
 
+-- the tail of a spelling in range is in range
 pub tail_range : (bits : Bits) (ip : ℕ) (row : Row) (s : Spelling) → fields_in_range s ≡ true → InRange (tail_of bits ip row s)
 tail_range bits ip row s h = record { modrm = modrm_range s h; sib = sib_range s h }
 
+-- what is read is the instruction
 pub read_is : (bits : Bits) (ip : ℕ) (code : Code) (row : Row) (s : Spelling) (i : Instr) → Given bits ip code row s i → read bits ip code row s ≡ i
 unfolding meaning
 read_is bits ip code row s i g = g.means
 
+-- the instruction asks for the bits of its front
 pub bits_of : (bits : Bits) (ip : ℕ) (code : Code) (row : Row) (s : Spelling) (i : Instr) → Given bits ip code row s i → AskedBits bits row (state_of bits row s) i
 bits_of bits ip code row s i g =
     subst (AskedBits bits row (state_of bits row s)) (read_is bits ip code row s i g)
@@ -48,6 +51,7 @@ read_keeps : (bits : Bits) (ip : ℕ) (code : Code) (row : Row) (s : Spelling) �
 unfolding instr_of
 read_keeps bits ip code row s = record { lock = refl; rep = refl; seg = refl; address = needs_67 bits row (state_of bits row s) s.modrm }
 
+-- and keeps the prefixes that count
 pub kept_of : (bits : Bits) (ip : ℕ) (code : Code) (row : Row) (s : Spelling) (i : Instr) → Given bits ip code row s i → Kept bits row (state_of bits row s) i
 kept_of bits ip code row s i g = subst (Kept bits row (state_of bits row s)) (read_is bits ip code row s i g) (read_keeps bits ip code row s)
 

@@ -67,6 +67,7 @@ readers_sum : (p q r : Method → Bool) → ((how : Method) → (if p how then 1
 readers_sum p q r h [] = omega arith
 readers_sum p q r h (kind ∷ kinds) = let here = h (method_of kind) in let rest = readers_sum p q r h kinds in omega arith
 
+-- a part that a kind reads has a reader
 pub some_reader : (p : Method → Bool) (kinds : List OpKind) → list_any (λ kind. p (method_of kind)) kinds ≡ true → 1 ≤ readers p kinds
 some_reader p [] h = absurd (differ false h refl)
 some_reader p (kind ∷ kinds) h = elim (cases_Bool (p (method_of kind))) [
@@ -94,6 +95,7 @@ no_any_mode row a g = elim (cases_Bool (reads_by is_any_mode row)) [
       absurd (omega arith))
 ]
 
+-- a gather is read in r/m
 pub gather_reads_rm : (how : Method) → is_gather how ≡ true → reads_rm how ≡ true
 gather_reads_rm method.Gather h = refl
 gather_reads_rm _ h = cc
@@ -144,6 +146,7 @@ modrm_of row opcode m h =
     let r1 = (and_parts (opcode_fits row opcode) _ h).1 in
     ((and_parts (opcode_fits row opcode) _ h).0, (and_parts (modrm_rule_fits row.plus row.modrm m) _ r1).0, (and_parts (modrm_rule_fits row.plus row.modrm m) _ r1).1)
 
+-- the tail of a fitting spelling has the parts that the row asks for
 pub tail_is : (bits : Bits) (ip : ℕ) (row : Row) (s : Spelling) → Sound row → Fits bits row s → TailIs bits row (state_of bits row s) (tail_of bits ip row s)
 tail_is bits ip row s sound f =
     let st = state_of bits row s in
@@ -186,6 +189,7 @@ by_place OnlyRegister m true f g e h hf hg =
     let k : m.mode3 < 3 = ltb-true m.mode3 3 e in let l : m.mode3 ≡ 3 = eqb-true m.mode3 3 h in absurd (omega arith)
 by_place OnlyRegister m false f g e h hf hg = hg
 
+-- a ModRM without mod 3 is read as memory
 pub memory_stands : (bits : Bits) (st : PrefixState) (m : Option ModRm) (sib : Option Sib) (disp : List ℕ) (next : ℕ) → is_some m ≡ true → is_memory (memory_operand bits st m sib disp next) ≡ true
 unfolding memory_operand
 memory_stands bits st None sib disp next h = h
@@ -219,6 +223,7 @@ pub reads_at : (p : Method → Bool) (row : Row) (n : ℕ) → has_four_operands
 unfolding has_four_operands
 reads_at p row n four h e = let k = eqb-true (length row.ops) 4 four in any_kind (λ kind. p (method_of kind)) row.ops n (omega arith) e
 
+-- each operand that is read is of a variant that its kind allows
 pub variant_at : (bits : Bits) (ip : ℕ) (code : Code) (row : Row) (s : Spelling) → Sound row → Fits bits row s → (n : ℕ) → n < 4 → kind_suits row (read bits ip code row s) n ≡ true
 unfolding kind_suits
 variant_at bits ip code row s sound f n h =

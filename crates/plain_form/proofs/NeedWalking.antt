@@ -30,18 +30,22 @@ hold_four Q (a ∷ b ∷ c ∷ d ∷ e ∷ kinds) o0 o1 o2 o3 n h0 h1 h2 h3 = ab
 abbrev pub readers : (Method → Bool) → List OpKind → ℕ
 readers p kinds = count_where (λ kind. p (method_of kind)) kinds
 
+-- behind a kind that reads a part no other reads it
 pub readers_yes : (p : Method → Bool) (kind : OpKind) (kinds : List OpKind) → p (method_of kind) ≡ true → readers p (kind ∷ kinds) ≤ 1 → readers p kinds ≡ 0
 readers_yes p kind kinds e h = let k : 1 + readers p kinds ≤ 1 = rw e at h in omega arith
 
+-- a kind that does not read it is no reader
 pub readers_no : (p : Method → Bool) (kind : OpKind) (kinds : List OpKind) (n : ℕ) → p (method_of kind) ≡ false → readers p (kind ∷ kinds) ≤ n → readers p kinds ≤ n
 readers_no p kind kinds n e h = let k : 0 + readers p kinds ≤ n = rw e at h in omega arith
 
+-- if nothing reads a part, the first kind does not
 pub readers_none : (p : Method → Bool) (kind : OpKind) (kinds : List OpKind) → readers p (kind ∷ kinds) ≡ 0 → p (method_of kind) ≡ false
 readers_none p kind kinds h = elim (cases_Bool (p (method_of kind))) [
   | inr e ↦ e
   | inl e ↦ (let k : 1 + readers p kinds ≡ 0 = rw e at h in absurd (omega arith))
 ]
 
+-- nor do the others
 pub readers_left : (p : Method → Bool) (kind : OpKind) (kinds : List OpKind) → readers p (kind ∷ kinds) ≡ 0 → readers p kinds ≡ 0
 readers_left p kind kinds h =
     let e = readers_none p kind kinds h in let k : 0 + readers p kinds ≡ 0 = rw e at h in omega arith
@@ -50,6 +54,7 @@ readers_left p kind kinds h =
 abbrev pub Silent : (Method → Bool) → (Method → Operand → ℕ) → OpKind → Operand → Type 0
 Silent p f kind op = p (method_of kind) ≡ false → f (method_of kind) op ≡ 0
 
+-- operands that do not read a part ask for the number 0 there
 pub asked_none : (p : Method → Bool) (f : Method → Operand → ℕ) (kinds : List OpKind) (ops : List Operand) → readers p kinds ≡ 0 → Hold (Silent p f) kinds ops → over_operands f kinds ops ≡ 0
 asked_none p f [] ops n h = refl
 asked_none p f (kind ∷ kinds) [] n h = refl

@@ -11,10 +11,12 @@ pub modrm_count : (m : Option ModRm) → length (modrm_bytes m) ≡ byte_count (
 modrm_count None = refl
 modrm_count (Some m) = refl
 
+-- a SIB is one byte, if there is one
 pub sib_count : (s : Option Sib) → length (sib_bytes s) ≡ byte_count (is_some s)
 sib_count None = refl
 sib_count (Some s) = refl
 
+-- a spelling is as long as its parts
 pub parts_length : (row : Row) (s : Spelling) → length (bytes_of row s) ≡ length (front_bytes row s) + (1 + (length (modrm_bytes s.modrm) + (length (sib_bytes s.sib) + (length s.disp.items + length s.imm.items))))
 unfolding bytes_of tail_bytes
 parts_length row s =

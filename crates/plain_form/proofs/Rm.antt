@@ -52,6 +52,7 @@ pub record AddressIs (bits : Bits) (row : Row) (st : PrefixState) (m : ModRm) (s
   pub forth : SibPlain bits row st m sib → address_fields bits asize mem ≡ fields m.mode3 m.rm sib
   pub back : (address_fields bits asize mem).sib ≡ sib → SibPlain bits row st m sib
 
+-- the operand in r/m is the one that is read there
 abbrev pub OperandIs : Bits → Row → PrefixState → ModRm → Option Sib → Bits → Operand → Type 0
 OperandIs bits row st m sib asize (MemOperand mem) = AddressIs bits row st m sib asize mem
 OperandIs bits row st m sib asize _ = Unit {0}
@@ -170,10 +171,12 @@ shown_of : (bits : Bits) (ip : ℕ) (code : Code) (row : Row) (s : Spelling) (i 
 shown_of bits ip code row s i n mem g below e =
     subst (λ (x : Operand). OperandFits bits (spelled_asize bits row s) row (method_of (kind_at row n)) (file_of (kind_at row n)) (length s.disp.items) x) e (fits_at bits ip code row s i n g below)
 
+-- the address size of a spelling is the one that is written
 pub written_at : (bits : Bits) (ip : ℕ) (code : Code) (row : Row) (s : Spelling) (i : Instr) (n : ℕ) (mem : Mem) → Given bits ip code row s i → n < 4 → operand_at i n ≡ MemOperand mem → written_size bits i.asize mem ≡ spelled_asize bits row s
 written_at bits ip code row s i n mem g below e =
     ap (λ (x : Option Bits). written_size bits x mem) (asize_of_memory bits ip code row s i n g below (ap is_memory e))
     ∙ written_is bits (spelled_asize bits row s) mem (shown_of bits ip code row s i n mem g below e).shown
 
+-- its displacement has the bytes that are written
 pub count_at : (bits : Bits) (ip : ℕ) (code : Code) (row : Row) (s : Spelling) (i : Instr) (n : ℕ) (mem : Mem) → Given bits ip code row s i → n < 4 → operand_at i n ≡ MemOperand mem → displacement_count mem.disp_size ≡ length s.disp.items
 count_at bits ip code row s i n mem g below e = (shown_of bits ip code row s i n mem g below e).count

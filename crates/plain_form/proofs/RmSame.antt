@@ -52,6 +52,7 @@ use Rattle.plain_form.proofs.Rm.{AddressIs, OperandIs, address_at, written_at}
 
 -- ---- registers
 
+-- the file is that of the segment registers
 abbrev pub is_segment_file : File → Bool
 is_segment_file file.Segment = true
 is_segment_file _ = false
@@ -150,9 +151,11 @@ small_of m h =
       rm = ltb-true m.rm 8 (and_parts (nat_lt m.reg 8) (nat_lt m.rm 8) rest).1;
     }
 
+-- the fields of a spelling's ModRM are below 8
 pub small_at : (bits : Bits) (ip : ℕ) (code : Code) (row : Row) (s : Spelling) (i : Instr) (m : ModRm) → Given bits ip code row s i → s.modrm ≡ Some m → Small m
 small_at bits ip code row s i m g e = small_of m (subst (λ (o : Option ModRm). modrm_in_range o ≡ true) e (modrm_range s g.fitting.ranges))
 
+-- a register in r/m has the same fields in both spellings
 pub register_at : (bits : Bits) (ip : ℕ) (code : Code) (row : Row) (s : Spelling) (i : Instr) (n : ℕ) (m : ModRm) → Given bits ip code row s i → n < 4 → reads_rm (method_of (kind_at row n)) ≡ true → s.modrm ≡ Some m → RegIs m (method_of (kind_at row n)) (operand_at i n)
 register_at bits ip code row s i n m g below reads e =
     let st = state_of bits row s in
@@ -167,6 +170,7 @@ register_at bits ip code row s i n m g below reads e =
 
 -- ---- the SIB where none is asked for
 
+-- the address of a fitting spelling fits
 pub address_part : (bits : Bits) (ip : ℕ) (code : Code) (row : Row) (s : Spelling) (i : Instr) → Given bits ip code row s i → address_fits (spelled_asize bits row s) row s.modrm s.sib (length s.disp.items) ≡ true
 unfolding lengths_fit
 address_part bits ip code row s i g = (and_parts (address_fits (spelled_asize bits row s) row s.modrm s.sib (length s.disp.items)) _ g.fitting.lengths).0
@@ -175,6 +179,7 @@ none_from : {T : Type 0} → (o : Option T) → is_some o ≡ false → o ≡ No
 none_from None h = refl
 none_from (Some x) h = impossible h
 
+-- an option that tests as None is None
 pub is_none_from : {T : Type 0} → (o : Option T) → is_none o ≡ true → o ≡ None
 is_none_from None h = refl
 is_none_from (Some x) h = impossible (sym h)
@@ -183,6 +188,7 @@ same_false : (a b : Bool) → same_bool a b ≡ true → b ≡ false → a ≡ f
 same_false true b h e = sym h ∙ e
 same_false false b h e = refl
 
+-- a ModRM that needs no SIB has none
 pub sib_without : (asize : Bits) (row : Row) (m : ModRm) (sib : Option Sib) (given : ℕ) → address_fits asize row (Some m) sib given ≡ true → needs_sib asize m ≡ false → sib ≡ None
 unfolding address_fits
 sib_without asize row m sib given h e = by_test (reads_mode row) h
@@ -191,6 +197,7 @@ sib_without asize row m sib given h e = by_test (reads_mode row) h
     by_test true h = none_from sib (same_false (is_some sib) (needs_sib asize m) (and_parts (same_bool (is_some sib) (needs_sib asize m)) _ h).0 e)
     by_test false h = is_none_from sib (and_parts (is_none sib) _ h).0
 
+-- with mod 3 there is no SIB
 pub needs_none : (asize : Bits) (m : ModRm) → m.mode3 ≡ 3 → needs_sib asize m ≡ false
 unfolding needs_sib
 needs_none B16 m h = refl
@@ -238,6 +245,7 @@ any_mode_reads : (row : Row) → reads_by is_any_mode row ≡ true → reads_mod
 unfolding reads_mode
 any_mode_reads row h = rw h refl
 
+-- what is read in r/m is a register or memory
 pub variant_rm : (place : Place) (how : Method) (op : Operand) → reads_rm how ≡ true → is_variant_of place how op ≡ true → (is_register op || is_memory op) ≡ true
 unfolding is_variant_of is_allowed_in
 variant_rm AnyPlace method.RegisterOrMemory op h k = k

@@ -45,6 +45,7 @@ reg_by AnyModRm false m h = eq-eqb (reg_field m) 0 (h refl refl)
 reg_by (Digit d) reads m h = refl
 reg_by (FixedByte b) reads m h = refl
 
+-- reg of a plain ModRM is read, or 0
 pub reg_plain : (bits : Bits) (row : Row) (i : Instr) → reg_is_read row (plain_modrm bits row i) ≡ true
 unfolding reg_is_read
 reg_plain bits row i =
@@ -63,6 +64,7 @@ lone_same : (place : Place) → (lone_mode place == (elim place [ OnlyRegister �
 lone_same OnlyRegister = refl
 lone_same _ = refl
 
+-- without an operand in r/m the fields are those of no address
 pub fields_none : (bits : Bits) (row : Row) (i : Instr) → reads_by reads_rm row ≡ false → fields_of bits row i ≡ no_address (lone_mode row.place) 0
 unfolding rm_fields
 fields_none bits row i none = ap (λ (op : Operand). rm_fields bits i.asize row.place op) (rm_operand-none row i none)
@@ -75,6 +77,7 @@ lone_by bits row i reg m e = elim (cases_Bool (reads_by reads_rm row)) [
       rw (none, k) (lone_same row.place))
 ]
 
+-- r/m of a plain ModRM is read, or 0
 pub rm_plain : (bits : Bits) (row : Row) (i : Instr) → rm_is_read row (plain_modrm bits row i) ≡ true
 unfolding rm_is_read
 rm_plain bits row i =
@@ -165,6 +168,7 @@ last_at bits ip row i n g below e f = elim (cases_Bool (reads_last_byte (method_
       rw (some, k) refl)
 ]
 
+-- the unused bits of the last byte of a plain spelling are 0
 pub last_plain : (bits : Bits) (ip : ℕ) (row : Row) (i : Instr) → Given bits ip row i → state_of bits row (plain_spelling bits ip row i) ≡ plain_front_of bits row i → FrontBits bits row i → immediates_are_read bits row (plain_spelling bits ip row i) ≡ true
 unfolding immediates_are_read
 last_plain bits ip row i g e f =

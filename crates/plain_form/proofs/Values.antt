@@ -17,6 +17,7 @@ first_same x y m n hx hy h = omega arith
 rest_same : (x y m n : ℕ) → x < 256 → y < 256 → x + 256 * m ≡ y + 256 * n → m ≡ n
 rest_same x y m n hx hy h = omega arith
 
+-- bytes of one number and length are the same
 pub value_same : (a b : List ℕ) → length a ≡ length b → are_bytes a ≡ true → are_bytes b ≡ true → little_endian a ≡ little_endian b → a ≡ b
 unfolding little_endian
 value_same [] [] n ha hb h = refl
@@ -68,6 +69,7 @@ low_of_extended w d h hw b =
     by_powers (nat_lt (2 * little_endian d) (2 ^ (8 * length d))) (2 ^ (8 * length d)) (2 ^ 64) (2 ^ w) (2 ^ (w - 8 * length d)) (2 ^ (64 - 8 * length d)) (little_endian d)
     (pow_times (8 * length d) 64 (omega arith)) (pow_times (8 * length d) w h) (little_endian-below d b) (pow_pos (64 - 8 * length d))
 
+-- so are bytes whose sign-extended numbers are equal
 pub extended_same : (w : ℕ) (a b : List ℕ) → length a ≡ length b → 8 * length a ≤ w → w ≤ 64 → are_bytes a ≡ true → are_bytes b ≡ true → sign_extended w a ≡ sign_extended w b → a ≡ b
 extended_same w a b n h hw ha hb e =
     let low : little_endian a ≡ little_endian b =
@@ -114,6 +116,7 @@ target_low size next d h hw b =
     ap (λ (n : ℕ). (next + s) % n % p) w ∙ mod_of_multiple p (2 ^ (width size - 8 * length d)) (next + s)
     ∙ sum_low p next s (little_endian d) (low_of_extended 64 d (omega arith) (omega arith) b)
 
+-- so are distances to one target
 pub target_same : (size : Bits) (next : ℕ) (a b : List ℕ) → length a ≡ length b → 8 * length a ≤ width size → width size ≤ 64 → are_bytes a ≡ true → are_bytes b ≡ true → target_of size next a ≡ target_of size next b → a ≡ b
 target_same size next a b n h hw ha hb e =
     let p = 2 ^ (8 * length a) in

@@ -89,6 +89,7 @@ pub word-told : (bits : Bits) (row : Row) (state : PrefixState) → size_fits bi
 word-told bits row state x h told =
     one_word bits row.size (state_size bits row state) (plain_size bits row) (bit_w bits state) (plain_w bits row) told x (plain_size_fits bits row h)
 
+-- a size of 16 or 32 is written by the prefixes that state it
 pub word_or_dword-told : (bits : Bits) (row : Row) (state : PrefixState) → size_fits bits row.size (state_size bits row state) (bit_w bits state) ≡ true → has_plain_size bits row ≡ true → says_word row.size ≡ true → word_or_dword (state_size bits row state) ≡ word_or_dword (plain_size bits row)
 word_or_dword-told bits row state x h told = word_by_16 (state_size bits row state) (plain_size bits row) (word-told bits row state x h told)
 
@@ -120,6 +121,7 @@ file-at-told row h n =
     let kind = kind_at row n in
     (and_parts (file_is_told row (file_of kind)) (width_is_told row (immediate_width kind) && value_is_told row (method_of kind)) (kind-at-told row h n)).0
 
+-- the width of each immediate is stated
 pub width-at-told : (row : Row) → list_all (kind_is_told row) row.ops ≡ true → (n : ℕ) → width_is_told row (immediate_width (kind_at row n)) ≡ true
 unfolding kind_is_told
 width-at-told row h n =
@@ -127,6 +129,7 @@ width-at-told row h n =
     (and_parts (width_is_told row (immediate_width kind)) (value_is_told row (method_of kind))
     (and_parts (file_is_told row (file_of kind)) (width_is_told row (immediate_width kind) && value_is_told row (method_of kind)) (kind-at-told row h n)).1).0
 
+-- and so is its value
 pub value-at-told : (row : Row) → list_all (kind_is_told row) row.ops ≡ true → (n : ℕ) → value_is_told row (method_of (kind_at row n)) ≡ true
 unfolding kind_is_told
 value-at-told row h n =

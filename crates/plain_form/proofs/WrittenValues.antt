@@ -15,11 +15,13 @@ use Rattle.plain_spelling.specs.Values.{low_bytes, is_extended_of, distance}
 
 -- ---- the bytes
 
+-- the n low bytes of a number are n
 pub low_bytes-length : (n x : ℕ) → length (low_bytes n x) ≡ n
 unfolding low_bytes
 low_bytes-length zero x = refl
 low_bytes-length (suc n) x = ap suc (low_bytes-length n (x / 256))
 
+-- they are bytes
 pub low_bytes-bytes : (n x : ℕ) → are_bytes (low_bytes n x) ≡ true
 unfolding low_bytes
 low_bytes-bytes zero x = refl
@@ -38,6 +40,7 @@ unfolding low_bytes little_endian
 little_endian-low_bytes-mod zero x = sym (mod-one x)
 little_endian-low_bytes-mod (suc n) x = next_byte n x _ (little_endian-low_bytes-mod n (x / 256))
 
+-- and their number is the number that they are of
 pub little_endian-low_bytes : (n x : ℕ) → x < 2 ^ (8 * n) → little_endian (low_bytes n x) ≡ x
 little_endian-low_bytes n x h = little_endian-low_bytes-mod n x ∙ mod-eq_of_lt h
 
@@ -48,6 +51,7 @@ step n b r hb hr =
     let p : 2 ^ (8 * n + 8) ≡ 2 ^ (8 * n) * 256 = pow-add 2 (8 * n) 8 in
     rw e8 (omega arith)
 
+-- n bytes make a number below 256 to the n
 pub little_endian-below : (bytes : List ℕ) → are_bytes bytes ≡ true → little_endian bytes < 2 ^ (8 * length bytes)
 unfolding little_endian
 little_endian-below [] h = omega arith

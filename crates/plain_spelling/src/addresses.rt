@@ -476,7 +476,7 @@ fn is_sole_base(base: Option<Register>, index: Option<Register>) -> bool
 
 /// Whether a base of 64 bits stands alone in 64-bit mode, with a displacement that it offers.
 ///
-/// Most addresses are such, and this one test says all that is asked of them.
+/// Most addresses are such, and this one test decides all conditions on them.
 #[inline(always)]
 #[tactic(auto, unfolding(crate::specs::Addresses::is_based))]
 pub fn is_based(bits: Bits, memory: &Mem) -> bool

@@ -571,7 +571,7 @@ fn first_failure(bits: Bits, row: &Row, instr: &Instr, parts: &PlainParts) -> Op
     }
 }
 
-/// The same, by a copy of the parts, which so need not lie in memory where all conditions hold. It is made field by field, without what lies
+/// The first failing condition, by a copy of the parts, which so need not lie in memory where all conditions hold. It is made field by field, without what lies
 /// between them.
 #[inline(always)]
 fn first_failure_by(bits: Bits, row: &Row, instr: &Instr, parts: &PlainParts) -> Option<NoSpelling>

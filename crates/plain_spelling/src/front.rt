@@ -56,7 +56,7 @@ pub fn asks_66(bits: Bits, row: &Row) -> bool
     asks_66_of(bits, row, is_vex_row(row))
 }
 
-/// The same, by whether the row is a VEX row.
+/// Whether 66 is written, given whether the row is a VEX row.
 #[inline(always)]
 #[tactic(auto, unfolding(crate::specs::PlainFront::asks_66))]
 pub(crate) fn asks_66_of(bits: Bits, row: &Row, is_vex: bool) -> bool
@@ -104,7 +104,7 @@ fn asked_repeat(row: &Row, instr: &Instr, is_vex: bool) -> Rep
     }
 }
 
-/// The REX of a legacy row, where something needs one: `w` is what the row asks of W, and the numbers say what is asked of R, X and B.
+/// The REX of a legacy row, where something needs one: `w` is what the row requires of W, and the numbers say what they require of R, X and B.
 #[inline(always)]
 #[tactic(auto, unfolding(crate::specs::PlainFront::asked_rex, crate::specs::PlainFront::asks_r, crate::specs::PlainFront::asks_x, crate::specs::PlainFront::asks_b))]
 fn asked_rex(row: &Row, instr: &Instr, asked: &Asked, w: bool, is_vex: bool) -> Option<u8>
@@ -285,7 +285,7 @@ pub fn plain_size(bits: Bits, row: &Row, w: bool, size66: bool) -> Bits
     plain_size_of(bits, row, w, size66, is_vex_row(row))
 }
 
-/// The same, by whether the row is a VEX row too.
+/// The operand size of the plain spelling, given whether the row is a VEX row too.
 #[inline(always)]
 #[tactic(auto, unfolding(crate::specs::PlainTail::plain_size))]
 pub(crate) fn plain_size_of(bits: Bits, row: &Row, w: bool, size66: bool, is_vex: bool) -> Bits

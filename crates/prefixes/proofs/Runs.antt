@@ -113,6 +113,7 @@ escape_front-late bits ps (b ∷ bytes) =
     (late-if (length ps) (b == 0x3A) _ _ (opcode_front-late bits ps 2 None M0f3a bytes)
     (late-if (length ps) (b == 0x0F) Forbidden _ tt (opcode_front-late bits ps 1 None M0f (b ∷ bytes))))
 
+-- the front of bytes ends behind its prefixes
 pub lead_front-late : (bits : Bits) (ps bytes : List ℕ) → IsLate (length ps) (lead_front bits ps bytes)
 unfolding lead_front
 lead_front-late bits ps [] = tt

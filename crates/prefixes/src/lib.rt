@@ -28,7 +28,7 @@ pub enum PrefixError {
     /// The bytes, 14 at most, end before their opcode byte, and nothing that is forbidden was met.
     #[error("the bytes end before an opcode byte")]
     Ended,
-    /// No opcode byte can follow: the map number of a VEX is none, a VEX stands behind 66, F2, F3, F0 or a REX that
+    /// No opcode byte can follow: the map number of a VEX is none, a VEX follows 66, F2, F3, F0 or a REX that
     /// counts, 62 stands as an opcode byte in 64-bit mode, 0F follows the escape byte 0F, or 15 bytes hold no opcode byte.
     #[error("no opcode byte can follow these prefixes")]
     Forbidden,
@@ -326,7 +326,7 @@ fn long_front(bits: Bits, bytes: &[u8], n: usize, out: &mut PrefixState) -> Resu
     lead_front(bits, prefixes, rest, out)
 }
 
-/// A front is forbidden once 15 bytes were read without an opcode byte; `used` stand before it, where there is one.
+/// A front is forbidden once 15 bytes were read without an opcode byte; `used` precede it, where there is one.
 #[inline(always)]
 fn within_15_bytes(
     given: usize,

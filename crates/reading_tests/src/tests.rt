@@ -3,6 +3,7 @@
 mod compare;
 mod decoding_tests;
 mod encoding_tests;
+mod field_tests;
 mod front_tests;
 mod info_tests;
 mod notation_tests;

@@ -6,11 +6,13 @@ use Rattle.row_entries.specs.Words.{value_among, mark_words, split}
 use Rattle.row_entries.specs.Entries.{◌>>=◌, with_mark, with_marks}
 use Rattle.row_entries.proofs.Splits.{split_front}
 
+-- a text without marks adds none
 pub marks_none : (e : Entry) (text : List ℕ) → length text < 1 → with_marks e (split text 32) ≡ Some e
 unfolding with_marks split
 marks_none e [] h = refl
 marks_none e (c ∷ text) h = absurd (omega arith)
 
+-- a mark is added before those that follow
 pub marks_first : (e : Entry) (text : List ℕ) → 0 < length text
     → with_marks e (split text 32)
     ≡ (value_among mark_words (text_front text 32) >>= (λ m. with_mark e m >>= (λ marked. with_marks marked (split (text_behind text 32) 32))))

@@ -17,6 +17,7 @@ onto_front c (d ∷ text) separator =
           rw e (ap (onto c) (onto_front d text separator))
     ]
 
+-- a text is its front up to the first separator, and the parts behind it
 pub split_front : (c : ℕ) (text : List ℕ) (separator : ℕ) → split (c ∷ text) separator ≡ text_front (c ∷ text) separator ∷ split (text_behind (c ∷ text) separator) separator
 unfolding split front_len text_behind
 split_front c text separator =

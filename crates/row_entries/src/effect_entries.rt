@@ -23,7 +23,7 @@ const FILES: [&str; 3] = [
     "effects_vector.txt",
 ];
 
-/// The error that something else is said of the row of a code: what is wrong, and the word that is.
+/// The error that the lines state something else of the row of a code: what is wrong, and the word that is.
 fn refuse(code: Code, wrong: &str, word: &str) -> Result<()>
     requires { code.0 < ROWS }
 {

@@ -147,7 +147,7 @@ fn fixed_modrm(opcode: u8, plus: Plus, point: u8, a: u8, b: u8) -> Option<Head>
     }
 }
 
-/// What stands behind the opcode byte.
+/// What follows the opcode byte.
 fn head_behind(opcode: u8, text: &[u8]) -> Option<Head>
     ensures { result ≡ spec.head_behind opcode text.now }
 {

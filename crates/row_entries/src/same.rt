@@ -106,7 +106,7 @@ fn same_front(a: &Row, b: &Row) -> bool
         && same_l(a.l, b.l)
 }
 
-/// Whether two rows agree in all that stands behind the opcode byte.
+/// Whether two rows agree in all that follows the opcode byte.
 fn same_tail(a: &Row, b: &Row) -> bool
     ensures { IsTrue result ↔ AgreeInTail a.now b.now }
 {

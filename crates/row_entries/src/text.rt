@@ -3,7 +3,7 @@
 ghost use Rattle.std.specs.Prelude.{◌≡◌, ◌+◌, ◌<◌, ◌≤◌, length, bytes_eq};
 ghost use Rattle.row_entries.specs.Text as spec;
 
-/// How many bytes stand before the first separator.
+/// How many bytes precede the first separator.
 #[tactic(auto, unfolding(crate::specs::Text::front_len))]
 fn front_len(text: &[u8], separator: u8) -> usize
     ensures value { result ≡ spec.front_len text.now separator }

@@ -136,7 +136,7 @@ fn outside_64(modes: Modes) -> u8
     }
 }
 
-/// Whether the rows go by the operand size though no mark says so: by an operand's kind, or since each size has its name.
+/// Whether the rows depend on the operand size though no mark says so: by an operand's kind, or since each size has its name.
 #[tactic(auto, unfolding(crate::specs::Variants::goes_by_size))]
 fn goes_by_size(e: &Entry) -> bool
     ensures { result ≡ spec.goes_by_size e.now }
@@ -221,7 +221,7 @@ fn by_mark(modes: Modes, sizes: Sizes, implied: bool) -> Option<[Variant; 3]>
     }
 }
 
-/// Whether the rows go by the operand size since they do by an operand or by their names.
+/// Whether the rows depend on the operand size since they do so by an operand or by their names.
 fn is_implied(e: &Entry) -> bool
     ensures { result ≡ spec.is_implied e.now }
 {
@@ -244,7 +244,7 @@ fn by_operand_size(e: &Entry) -> Option<[Variant; 3]>
     }
 }
 
-/// The rows of an entry that goes by the operand size, or by a W that is its operand size; None where it has one size.
+/// The rows of an entry that depends on the operand size, or by a W that is its operand size; None where it has one size.
 #[tactic(auto, unfolding(crate::specs::Variants::sizes_of))]
 fn sizes_of(e: &Entry) -> Option<[Variant; 3]>
     ensures { result ≡ spec.sizes_of e.now }

@@ -13,7 +13,7 @@ ghost use Rattle.instruction_parts.specs.Sizes.{exists_in, is_vex_row};
 ghost use Rattle.row_fit.specs.Fits.{opcode_fits};
 ghost use Rattle.row_fit.specs.Sound.{sound, Sound, begins_nothing};
 
-/// The front of the bytes of a fitting spelling, whatever stands behind them, is its own state.
+/// The front of the bytes of a fitting spelling, whatever follows them, is its own state.
 pub fn front_is_state()
     ensures { (bits : Bits) (row : Row) (s : Spelling) (rest : List ℕ)
         → IsTrue (fits bits row s) → long_front bits (bytes_of row s ++ rest) ≡ Known (state_of bits row s) }
@@ -46,13 +46,13 @@ pub fn one_spelling_of_a_row()
         → (s ≡ other) × (rest ≡ other_rest) }
 {}
 
-/// A known front stays the same, whatever stands behind the bytes.
+/// A known front stays the same, whatever follows the bytes.
 pub fn known_front_stays()
     ensures { (bits : Bits) (bytes more : List ℕ) (f : PrefixState)
         → long_front bits bytes ≡ Known f → long_front bits (bytes ++ more) ≡ Known f }
 {}
 
-/// A forbidden front stays forbidden, whatever stands behind the bytes.
+/// A forbidden front stays forbidden, whatever follows the bytes.
 pub fn forbidden_front_stays()
     ensures { (bits : Bits) (bytes more : List ℕ)
         → long_front bits bytes ≡ Forbidden → long_front bits (bytes ++ more) ≡ Forbidden }

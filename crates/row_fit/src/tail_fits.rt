@@ -1,4 +1,4 @@
-//! The conditions on what stands behind the opcode byte.
+//! The conditions on what follows the opcode byte.
 
 ghost use Rattle.std.specs.Prelude.{◌≡◌, ◌<◌, ◌+◌};
 ghost use Rattle.std.specs.List.{list_all};
@@ -352,7 +352,7 @@ pub fn registers_fit(
         && (!is_nop_byte(row, state.opcode) || nop_fits(bits, row, state))
 }
 
-/// The conditions on what stands behind the opcode byte.
+/// The conditions on what follows the opcode byte.
 #[tactic(auto, unfolding(crate::specs::Fits::tail_fits))]
 pub fn tail_fits(
     bits: Bits,

@@ -6,7 +6,7 @@ pub use x86_values::Rep;
 /// What the opcode tables see of an instruction's bytes, up to its ModRM.
 #[derive(Clone, Copy)]
 pub struct Fields {
-    /// Whether a VEX stands before the opcode byte.
+    /// Whether a VEX precedes the opcode byte.
     pub vex: bool,
     /// The map that the opcode byte stands in.
     pub map: Map,

@@ -1,4 +1,4 @@
-//! The operands of a row of which at most one has bytes of the immediates, where the operand size is told beforehand.
+//! The operands of a row of which at most one has bytes of the immediates, where the operand size is given.
 
 ghost use Rattle.std.specs.Prelude.{◌≡◌, ◌<◌, ◌≤◌, length, IsTrue};
 ghost use Rattle.row_meaning.specs.Meaning as spec;
@@ -18,7 +18,7 @@ use instruction_parts::spelling::PrefixState;
 use row_fit::fits::mode_is_memory;
 use x86_values::{Bits, Code, Instr, Operand};
 
-/// What each operand of an instruction is read by: the mode, the operand size, the row's L, and what stands behind the opcode byte.
+/// What each operand of an instruction is read by: the mode, the operand size, the row's L, and what follows the opcode byte.
 #[derive(Clone, Copy)]
 pub struct Given<'a> {
     pub bits: Bits,
@@ -45,7 +45,7 @@ fn any_given_into(given: &Given, state: &PrefixState, kind: OpKind, out: &mut Op
     )
 }
 
-/// Writes the operand of a kind to where it is to stand, and says whether it is memory. Registers and memory by ModRM, which most operands are, are told
+/// Writes the operand of a kind to where it is to stand, and says whether it is memory. Registers and memory by ModRM, which most operands are, are tested
 /// from others first.
 #[inline(never)]
 #[tactic(auto, unfolding(crate::specs::Meaning::operand_by, row_fit::specs::Fits::is_memory_method))]

@@ -298,7 +298,7 @@ fn gather_operand(
     }
 }
 
-/// What stands behind the opcode byte of an instruction, and the address behind its last byte.
+/// What follows the opcode byte of an instruction, and the address behind its last byte.
 #[derive(Clone, Copy)]
 pub struct Behind<'a> {
     pub modrm: Option<ModRm>,

@@ -39,6 +39,7 @@ use Rattle.row_fit.specs.Fits.{fits}
 use Rattle.row_meaning.specs.Meaning.{meaning}
 use Rattle.row_relation.specs.EveryRule.{every_rule}
 
+-- a VEX by its fields
 abbrev pub vex : Bool → Bool → Bool → Bool → Bool → Bool → Map → ℕ → ℕ → Vex
 vex three r x b w l map vvvv pp =
     record { three = three; r = r; x = x; b = b; w = w; l = l; map = map; vvvv = vvvv; pp = pp }
@@ -46,12 +47,15 @@ vex three r x b w l map vvvv pp =
 abbrev pub modrm : ℕ → ℕ → ℕ → ModRm
 modrm mode3 reg rm = record { mode3 = mode3; reg = reg; rm = rm }
 
+-- a SIB by its fields
 abbrev pub sib : ℕ → ℕ → ℕ → Sib
 sib scale index base = record { scale = scale; index = index; base = base }
 
+-- some bytes as the type that holds prefixes
 abbrev pub bytes : List ℕ → ArrayVec ℕ
 bytes items = record { items = items }
 
+-- a spelling by its parts
 abbrev pub spell : List ℕ → Option Vex → ℕ → Option ModRm → Option Sib → List ℕ → List ℕ → Spelling
 spell prefixes vex opcode modrm sib disp imm = record {
   prefixes = bytes prefixes;
@@ -63,10 +67,12 @@ spell prefixes vex opcode modrm sib disp imm = record {
   imm = bytes imm;
 }
 
+-- a memory operand by its base, index, scale, displacement and displacement size
 abbrev pub memory : Option Register → Option Register → ℕ → ℕ → DispSize → Mem
 memory base index scale disp disp_size =
     record { base = base; index = index; scale = scale; disp = disp; disp_size = disp_size }
 
+-- an instruction by its code, operands and prefixes
 abbrev pub instr : ℕ → Operand → Operand → Operand → Operand → Bool → Rep → Option Segment → Option Bits → Instr
 instr n a b c d lock rep seg asize = record {
   code = record { 0 = n };

@@ -162,7 +162,7 @@ fn append_sib(out: &mut ArrayVec<u8, 15>, s: Option<Sib>)
     }
 }
 
-/// Appends the opcode byte of a spelling and what stands behind it: ModRM, SIB, displacement and immediates (2.1).
+/// Appends the opcode byte of a spelling and what follows it: ModRM, SIB, displacement and immediates (2.1).
 #[tactic(auto, unfolding(instruction_parts::specs::Bytes::tail_bytes))]
 pub fn append_tail(out: &mut ArrayVec<u8, 15>, s: &Spelling)
     requires room { array_vec_len out.old + (1 + length (spec.tail_bytes s.now)) ≤ 15 }
@@ -216,7 +216,7 @@ fn append_immediates_if(
     }
 }
 
-/// Appends the opcode byte of the plain spelling of an instruction and what stands behind it, by the parts of the plain spelling (2.1).
+/// Appends the opcode byte of the plain spelling of an instruction and what follows it, by the parts of the plain spelling (2.1).
 #[inline(always)]
 #[tactic(auto, unfolding(instruction_parts::specs::Bytes::modrm_bytes, instruction_parts::specs::Bytes::sib_bytes))]
 pub fn append_plain_tail(out: &mut ArrayVec<u8, 15>, row: &Row, instr: &Instr, parts: &PlainParts)

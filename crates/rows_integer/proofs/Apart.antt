@@ -14,5 +14,6 @@ is_apart : table_apart table ≡ true
 unfolding prefix_holds w_holds rex_b_holds exists_in nth allows meets two three four reg_mask rm_mask marked_size size_mask masks rows_with_codes of_number at_opcode cands below disjoint mask_apart masks_apart apart_from all_apart cell_apart kind_apart table_apart table flat_rows
 is_apart = refl
 
+-- in each mode, two of these rows whose conditions hold on the same fields are one row
 pub rows_apart : (bits : Bits) (f : Fields) → f.opcode < 256 → RowsAreApart bits table f
 rows_apart bits f lt = apart bits table f (at_most_one table is_apart bits f lt)

@@ -7,6 +7,7 @@ use Rattle.row_lists.specs.Runs.{run_at, line_runs, spans_fit}
 use Rattle.rows_integer.specs.declared.generated_table.TheConstants.{ROWS}
 use Rattle.rows_integer.specs.Table.{flat_rows, table, spans}
 
+-- there are ROWS rows
 pub length-table : length table ≡ ROWS
 unfolding table flat_rows
 length-table = refl

@@ -5,5 +5,6 @@ use Rattle.row_lists.proofs.Spans.{spans-of_fit}
 use Rattle.rows_sse.specs.Table.{table, spans}
 use Rattle.rows_sse.proofs.TableFacts.{are_runs}
 
+-- the spans say where the rows of each cell lie
 pub are_spans : AreCellSpansOf Legacy table spans
 are_spans = spans-of_fit Legacy spans table are_runs

@@ -20,6 +20,7 @@ use Rattle.step_slots.specs.Block.{back_address, step_items, step_plan, IsStepOu
 use Rattle.step_slots.specs.LawsBelow.{StepLawsBelow}
 use Rattle.step_slots.proofs.JumpBack.{jump-placed, jump-reached}
 
+-- the address behind an instruction is one of the mode
 pub back-below : (bits : Bits) (item : Placed) → back_address bits item < 2 ^ width bits
 back-below B16 item = omega arith
 back-below B32 item = omega arith
@@ -27,10 +28,12 @@ back-below B64 item = omega arith
 
 -- ---- lengths
 
+-- a length in units is at least the length
 pub rounded-above : (n : ℕ) → n ≤ 53 → n ≤ len_in_units n
 unfolding len_in_units
 rounded-above n le = rw (le-leb n (2 ^ 64 - 16) (omega (arith, le))) (omega arith)
 
+-- a length up to 53 rounded up to 16 is the length in units
 pub rounded-is : (n m : ℕ) → n ≤ 53 → m ≡ (n + 15) / 16 * 16 → m ≡ len_in_units n
 unfolding len_in_units
 rounded-is n m le e = rw (le-leb n (2 ^ 64 - 16) (omega (arith, le))) e

@@ -77,7 +77,7 @@ fn stream_all<S: Source, K: Sink>(
 /// Goes through the code of a source, whose first byte has the address `base`, and writes the lines of its items, as far as the command goes on behind
 /// them. The answer is the number of items.
 ///
-/// An item is handled once 15 bytes from its start on were read or the input has ended, and before any byte past 16,777,216 is told. What was handled
+/// An item is handled once 15 bytes from its start on were read or the input has ended, and before any byte past 16,777,216 is reported. What was handled
 /// is put to the sink before the source is asked again, each time for at most 16,384 bytes. The first refusal in this order ends the way: `ReadFault` and
 /// `WriteFault` only where that port's count of faults rose, `BadCode` at the first item for which the command has no line, `TooLarge` where the source
 /// gives more than 16,777,216 bytes. A call of a port that fails is the last of all, and behind `BadCode` and `WriteFault` no more was taken than the last

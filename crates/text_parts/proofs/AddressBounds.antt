@@ -33,12 +33,14 @@ unless_none D16 text k h = h
 unless_none D32 text k h = h
 unless_none D64 text k h = h
 
+-- a displacement behind registers has at most 19 bytes
 pub signed_displacement-le : (style : Style) (asize : Bits) (m : Mem) → length (signed_displacement style asize m) ≤ 19
 unfolding signed_displacement
 signed_displacement-le style asize m =
     unless_none m.disp_size _ 19
     (short_append (sign style _) (number style _) 1 18 (sign-le style _) (number-le style _))
 
+-- a displacement alone has at most 18
 pub lone_displacement-le : (style : Style) (m : Mem) → length (lone_displacement style m) ≤ 18
 unfolding lone_displacement
 lone_displacement-le style m = unless_none m.disp_size _ 18 (number-le style _)
@@ -55,6 +57,7 @@ relative_word-le Intel base = rel_word-le base
 relative_word-le Masm base = omega arith
 relative_word-le Att base = omega arith
 
+-- a base register has at most 7
 pub base_text-le : (style : Style) (base : Option Register) → length (base_text style base) ≤ 7
 unfolding base_text
 base_text-le style None = omega arith
@@ -65,6 +68,7 @@ unfolding joint
 joint-le None = omega arith
 joint-le (Some r) = omega arith
 
+-- a scale has at most 3
 pub scale_text-le : (mark : List ℕ) (asize : Bits) (scale : ℕ) → length mark ≤ 1 → length (scale_text mark asize scale) ≤ 3
 unfolding scale_text
 scale_text-le mark B16 scale h = omega arith
@@ -103,6 +107,7 @@ bracket_segment-le Masm (Some s) m = segment_override-le Masm (Some s)
 bracket_segment-le Intel seg m = segment_override-le Intel seg
 bracket_segment-le Att seg m = segment_override-le Att seg
 
+-- an address in brackets has at most 43
 pub bracketed-le : (style : Style) (seg : Option Segment) (asize : Bits) (m : Mem) → length (bracketed_address style seg asize m) ≤ 43
 unfolding bracketed_address
 bracketed-le style seg asize m =

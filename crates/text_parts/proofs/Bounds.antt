@@ -32,6 +32,7 @@ leading_zero-le : (n : ℕ) → length (leading_zero n) ≤ 1
 unfolding leading_zero
 leading_zero-le n = search (rules, short_if)
 
+-- a number has at most 18 bytes
 pub number-le : (style : Style) (n : ℕ) → length (number style n) ≤ 18
 unfolding number
 number-le Masm n =
@@ -39,6 +40,7 @@ number-le Masm n =
 number-le Intel n = omega (arith, hexadecimal-le n)
 number-le Att n = omega (arith, hexadecimal-le n)
 
+-- a register number in decimal has at most 2
 pub decimal-le : (n : ℕ) → length (decimal n) ≤ 2
 unfolding decimal
 decimal-le n = search (rules, short_if)
@@ -55,6 +57,7 @@ high_byte_name-le : (n : ℕ) → length (high_byte_name n) ≤ 2
 unfolding high_byte_name
 high_byte_name-le n = search (rules, short_if)
 
+-- the name of a segment register has at most 2
 pub segment_name-le : (s : Segment) → length (segment_name s) ≤ 2
 unfolding segment_name
 segment_name-le Es = omega arith
@@ -100,10 +103,12 @@ sigil-le Intel = omega arith
 sigil-le Masm = omega arith
 sigil-le Att = omega arith
 
+-- the name of a register has at most 7
 pub register-le : (style : Style) (r : Register) → length (register style r) ≤ 7
 unfolding register
 register-le style r = short_append (sigil style) _ 1 6 (sigil-le style) (register_name-le style r)
 
+-- a segment override has at most 4
 pub segment_override-le : (style : Style) (seg : Option Segment) → length (segment_override style seg) ≤ 4
 unfolding segment_override
 segment_override-le style None = omega arith

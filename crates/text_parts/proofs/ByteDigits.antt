@@ -1,5 +1,5 @@
 -- The digits of a number of one byte, and of one of more by its last byte.
-use Rattle.std.proofs.Common.{◌≡◌, ◌⊎◌, inl, inr, ℕ, zero, suc, ◌+◌, ◌*◌, ◌/◌, ◌%◌, ◌^◌, ◌<◌, ◌≤◌, List, [], ◌∷◌, ◌++◌, length, refl, ap, sym, ◌∙◌, append_assoc, length-append, arith}
+use Rattle.std.proofs.Common.{◌≡◌, inl, inr, ℕ, zero, suc, ◌+◌, ◌*◌, ◌/◌, ◌%◌, ◌^◌, ◌<◌, ◌≤◌, List, [], ◌∷◌, ◌++◌, length, refl, ap, ◌∙◌, append_assoc, length-append, arith}
 use Rattle.std.specs.Prelude.{slice_index_or}
 use Rattle.std.specs.Int.Count.{count_leading_zeros}
 use Rattle.std.proofs.lemmas.Bool.{cases_lt}
@@ -53,6 +53,7 @@ two_digits-text n some h =
 pub one_digit-length : (n : ℕ) → n < 16 → length (hexadecimal n) ≡ 1
 one_digit-length n h = ap length (one_digit-text n h)
 
+-- a byte from 16 on has two hexadecimal digits
 pub two_digits-length : (n : ℕ) → 16 ≤ n → n < 256 → length (hexadecimal n) ≡ 2
 two_digits-length n some h = ap length (two_digits-text n some h)
 
@@ -63,6 +64,7 @@ one_digit-appended old pair n pair_is h =
     let low : slice_index_or pair 1 0 ≡ hex_digit (n % 16) = ap (λ (xs : List ℕ). slice_index_or xs 1 0) pair_is in
     rw (low, one_digit-text n h)
 
+-- its pair of digits is its hexadecimal text
 pub two_digits-appended : (old pair : List ℕ) (n : ℕ) → pair ≡ digit_pair n → 16 ≤ n → n < 256
     → (old ++ slice_index_or pair 0 0 ∷ []) ++ slice_index_or pair 1 0 ∷ [] ≡ old ++ hexadecimal n
 unfolding digit_pair
@@ -116,6 +118,7 @@ pub front-fits : (old : List ℕ) (n room : ℕ) → length old + length (hexade
     → length old + length (hexadecimal (n / 256)) ≤ room
 front-fits old n room fits some h = omega (arith, fits, last-byte-length n some h)
 
+-- the last byte of a number has room if the number has
 pub last-byte-fits : (old before : List ℕ) (n room : ℕ) → before ≡ old ++ hexadecimal (n / 256) → length old + length (hexadecimal n) ≤ room
     → 256 ≤ n → n < 2 ^ 64 → length before + 2 ≤ room
 last-byte-fits old before n room before_is fits some h =
@@ -144,6 +147,7 @@ sixteen_digits-count n some h =
     let many : 60 < suc t.0 = exponent_below 60 (suc t.0) n some t.3 in
     omega (arith, t.1, few, many)
 
+-- a number from 2 to the 60 on has sixteen digits
 pub sixteen_digits : (n : ℕ) → 2 ^ 60 ≤ n → n < 2 ^ 64 → hexadecimal n ≡ last_digits (2 * 8) n
 unfolding hexadecimal
 sixteen_digits n some h = rw (sixteen_digits-count n some h) refl

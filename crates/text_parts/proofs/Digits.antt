@@ -36,6 +36,7 @@ high_digit n position =
     let split : n / 2 ^ (8 * position + 4) ≡ n / 2 ^ (8 * position) / 16 = rw (pow-add 2 (8 * position) 4) (sym (div-div-eq-div-mul n (2 ^ (8 * position)) 16)) in
     rw (apart, split) (omega arith)
 
+-- the low digit of a byte of a number
 pub low_digit : (n position : ℕ) → n / 2 ^ (8 * position) % 256 % 16 ≡ digit_at n (2 * position)
 unfolding digit_at
 low_digit n position = let apart : 4 * (2 * position) ≡ 8 * position = omega arith in rw apart (omega arith)
@@ -46,6 +47,7 @@ unfolding digit_pair
 high_of_pair pair byte n position pair_is byte_is =
     ap (λ (xs : List ℕ). slice_index_or xs 0 0) pair_is ∙ ap (λ (k : ℕ). hex_digit (k / 16)) byte_is ∙ ap hex_digit (high_digit n position)
 
+-- the second digit of a pair is the low digit of its byte
 pub low_of_pair : (pair : List ℕ) (byte n position : ℕ) → pair ≡ digit_pair byte → byte ≡ n / 2 ^ (8 * position) % 256 → slice_index_or pair 1 0 ≡ hex_digit (digit_at n (2 * position))
 unfolding digit_pair
 low_of_pair pair byte n position pair_is byte_is =

@@ -72,6 +72,7 @@ operand_size_word-le bits row =
     (unless_no_size (named_size row.size) _ 4 (λ size. short_if (differs size (usual_size bits row)) (sized_word (codes "o") size) [] 4 (sized_word-le (codes "o") size (omega arith)) (omega arith)))
     (omega arith)
 
+-- the prefix words have at most 22 bytes
 pub prefix_words-le : (bits : Bits) (row : Row) (name : List ℕ) (instr : Instr) → length (prefix_words bits row name instr) ≤ 22
 unfolding prefix_words
 prefix_words-le bits row name instr =
@@ -86,6 +87,7 @@ counter_jump-le B16 = omega arith
 counter_jump-le B32 = omega arith
 counter_jump-le B64 = omega arith
 
+-- a name as it is printed has at most 20
 pub name_text-le : (bits : Bits) (name : List ℕ) (instr : Instr) → length name ≤ 20 → length (name_text bits name instr) ≤ 20
 unfolding name_text
 name_text-le bits name instr h = short_if (is_counter_jump name) _ _ 20 (counter_jump-le _) h
@@ -119,6 +121,7 @@ unfolding size_word
 size_word-le style row n =
     short_append (operand_size_name row n) _ 7 5 (operand_size_name-le row n) (behind_size-le style _)
 
+-- what separates operands has at most 2
 pub separator-le : (first : Bool) (op : Operand) → length (separator first op) ≤ 2
 unfolding separator
 separator-le first AbsentOperand = omega arith
@@ -152,6 +155,7 @@ operand_part-le style bits row instr n =
 pub whole_is_short : (words name p0 p1 p2 p3 : List ℕ) (w0 w1 w2 w3 : ℕ) → length words ≤ 22 → length name ≤ 20 → length p0 ≤ 20 + 37 * w0 → length p1 ≤ 20 + 37 * w1 → length p2 ≤ 20 + 37 * w2 → length p3 ≤ 20 + 37 * w3 → w0 + (w1 + (w2 + w3)) ≤ 1 → length (words ++ (name ++ (p0 ++ (p1 ++ (p2 ++ p3))))) ≤ 160
 whole_is_short words name p0 p1 p2 p3 w0 w1 w2 w3 hw hn h0 h1 h2 h3 one = simp length-append (omega arith)
 
+-- a text with brackets has at most 160
 pub bracket_layout-le : (style : Style) (bits : Bits) (row : Row) (name : List ℕ) (instr : Instr) → length name ≤ 20 → IsTrue (has_one_long instr) → length (bracket_layout style bits row name instr) ≤ 160
 unfolding bracket_layout has_one_long
 bracket_layout-le style bits row name instr short one =

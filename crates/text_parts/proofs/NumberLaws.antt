@@ -45,6 +45,7 @@ within_digits n h =
     let most : 2 ^ l.0 ≤ 2 ^ (4 * max 1 ((67 - count_leading_zeros 64 n) / 4)) = pow_mono bits in
     omega (arith, l.2, most)
 
+-- numbers with the same hexadecimal text are equal
 pub hexadecimal-same : (n m : ℕ) → n < 2 ^ 64 → m < 2 ^ 64 → hexadecimal n ≡ hexadecimal m → n ≡ m
 unfolding hexadecimal
 hexadecimal-same n m hn hm e =
@@ -82,6 +83,7 @@ digit_count-pos : (n : ℕ) → 0 < digit_count n
 unfolding digit_count
 digit_count-pos n = omega arith
 
+-- the hexadecimal text of a number above 0 does not begin with 0
 pub first-above : (n : ℕ) → 0 < n → n < 2 ^ 64 → 48 < slice_index (hexadecimal n) 0
 unfolding hexadecimal
 first-above n some h =

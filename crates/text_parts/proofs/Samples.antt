@@ -90,6 +90,7 @@ sample bits row name instr = record { bits = bits; row = row; name = name; instr
 
 -- ---- the samples
 
+-- instructions of known texts
 unfoldable pub samples : List Sample
 samples =
     sample B64 (row O64 NoL kind.Gv kind.Ev kind.Absent 0) (codes "mov") (plain (Some B64) (Reg (R64 0)) (address (Some Rip) None 1 0x1007 D32) none)

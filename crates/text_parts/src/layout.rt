@@ -20,7 +20,7 @@ use row_fit::tail_fits::kind_at;
 use row_meaning::row_memory_size;
 use x86_values::{Bits, Instr, Mem, Operand};
 
-/// Appends a size name and what stands behind it.
+/// Appends a size name and what follows it.
 #[inline]
 #[tactic(auto, unfolding(crate::specs::Layout::behind_size))]
 fn append_name<const N: usize>(out: &mut ArrayVec<u8, N>, style: Style, name: &[u8])

@@ -34,6 +34,7 @@ pub formed_row : (i : Instr) → IsTrue (is_well_formed i) → (row : Row) × (s
 unfolding is_well_formed
 formed_row i h = row_there (slice_get table i.code.0) i h
 
+-- the code of a well-formed instruction is below the number of rows
 pub code_in_table : (i : Instr) → IsTrue (is_well_formed i) → i.code.0 < ROWS
 code_in_table i h =
     let f = formed_row i h in omega (arith, slice_get_within table i.code.0 f.0 f.1, length-table)
@@ -112,5 +113,6 @@ formed-one row i h few =
     let b3 = operand-short row i 3 (and_parts (operand_is_formed row i 2) _ rest').1 in
     le-leb _ 1 (omega (arith, few, b0, b1, b2, b3))
 
+-- a well-formed instruction has at most one operand that is memory or a far pointer
 pub one_long : (i : Instr) → IsTrue (is_well_formed i) → IsTrue (has_one_long i)
 one_long i h = let f = formed_row i h in formed-one f.0 i f.2 (few-kinds i.code.0 f.0 f.1)

@@ -19,6 +19,7 @@ short-at [] k h = omega arith
 short-at (x ∷ xs) zero h = leb-true (length x) 20 (and_parts (nat_le (length x) 20) (all_short xs) h).0
 short-at (x ∷ xs) (suc k) h = short-at xs k (and_parts (nat_le (length x) 20) (all_short xs) h).1
 
+-- a name has at most 20 bytes
 pub name_of-le : (code : ℕ) → length (name_of code) ≤ 20
 unfolding name_of
 name_of-le code = short-at names code names-short

@@ -9,12 +9,14 @@ use Rattle.x86_values.specs.declared.Register.{Register}
 use Rattle.x86_values.specs.declared.Register.TheVariants.{Low8, High8, R16, R32, R64, Seg, Cr, Dr, St, Mm, Xmm, Ymm, Eip, Rip}
 use Rattle.x86_values.specs.Comparing.{same_bits, same_segment, same_register}
 
+-- sizes that test as the same are equal
 pub same_bits-is : (a b : Bits) → same_bits a b ≡ true → a ≡ b
 same_bits-is B16 B16 h = refl
 same_bits-is B32 B32 h = refl
 same_bits-is B64 B64 h = refl
 same_bits-is _ _ h = cc
 
+-- a size tests as the same as itself
 pub same_bits-refl : (a : Bits) → same_bits a a ≡ true
 same_bits-refl B16 = refl
 same_bits-refl B32 = refl
@@ -37,6 +39,7 @@ same_segment-refl Ds = refl
 same_segment-refl Fs = refl
 same_segment-refl Gs = refl
 
+-- registers that test as the same are equal
 pub same_register-is : (r s : Register) → same_register r s ≡ true → r ≡ s
 unfolding same_register
 same_register-is (Low8 m) (Low8 n) h = ap (λ (x : ℕ). Low8 x) (eqb-true m n h)
@@ -55,6 +58,7 @@ same_register-is Eip Eip h = refl
 same_register-is Rip Rip h = refl
 same_register-is _ _ h = cc
 
+-- a register tests as the same as itself
 pub same_register-refl : (r : Register) → same_register r r ≡ true
 unfolding same_register
 same_register-refl (Low8 n) = eq-eqb n n refl

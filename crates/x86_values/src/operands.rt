@@ -50,7 +50,7 @@ fn first_address(ops: &[Operand; 4]) -> Option<Operand>
 impl Instr {
     /// How many operands stand in front of the first absent one: 0 to 4.
     ///
-    /// In an instruction of the table no operand stands behind an absent one, so these are all.
+    /// In an instruction of the table no operand follows an absent one, so these are all.
     pub fn op_count(&self) -> usize
         ensures { result ≡ spec.count_of self.now.ops }
     {

@@ -135,7 +135,7 @@ fn lay_blocks(alloc: Global, tables: &Tables) -> Result<Layout, AllocError>
     })
 }
 
-/// The least layout of a plan. The only refusal is want of memory.
+/// The least layout of a plan. The only refusal is lack of memory.
 pub fn lay_out(alloc: Global, plan: &Plan) -> Result<Layout, LayoutError>
     ensures { IfOk result (λ laid. spec.IsLaidLeast plan.now laid) }
 {

@@ -40,7 +40,7 @@ fn modrm_in(row: &Row, tail: &[u8]) -> Option<ModRm>
     }
 }
 
-/// Whether a SIB stands behind this ModRM.
+/// Whether a SIB follows this ModRM.
 #[tactic(auto, unfolding(modrm_sib::specs::Parts::takes_sib))]
 fn takes_sib(bits: Bits, row: &Row, state: &PrefixState, modrm: ModRm) -> bool
     ensures { result ≡ parts.takes_sib bits row.now state.now modrm }

@@ -239,6 +239,7 @@ slot-good bits base size slot none =
     positive : (slot ≡ 0 → ⊥) → 0 < slot
     positive ne = below 0 slot (λ e. ne (sym e)) (omega arith)
 
+-- new hooks keep their invariant over the region
 pub kept-made : (laws : HookLawsBelow) (bits : Bits) (base size slot : ℕ) → make_refusal bits base size slot ≡ None → (region : RegionState)
     → region ≡ empty_region base size (size / slot) → (hooks : List Hook) → hooks ≡ [] → (room : ℕ) → size / slot ≤ room → AreHooksKept bits slot region hooks room
 kept-made laws bits base size slot none region is hooks no_hooks room roomy =
@@ -256,6 +257,7 @@ kept-made laws bits base size slot none region is hooks no_hooks room roomy =
 
 -- ---- in runs
 
+-- new hooks keep it in their own terms
 pub made-kept : (laws : HookLawsBelow) (bits : Bits) (base size slot : ℕ) → make_refusal bits base size slot ≡ None → AreKeptIn (no_hooks bits base size slot)
 made-kept laws bits base size slot none =
     kept-made laws bits base size slot none (empty_region base size (size / slot)) refl [] refl (size / slot) (omega arith)

@@ -1,13 +1,14 @@
-//! Hooks that are made, removed and made again, with the bytes of their range by hand, and what is refused.
+//! Hooks that are made, removed and made again, with the bytes of their range worked out from the manual, and what is refused.
 
 use crate::detours::compare::{are_bytes, same};
-use code_region::NotTaken;
-use detour::hook_slots::{Hook, HookCommand, HookReply, Hooks, InstallError, MakeError, replay};
-use detour::{DetourError, StartTarget};
+use feddurzai::hooks::{
+    DetourError, Hook, HookCommand, HookReply, Hooks, InstallError, MakeError, NotTaken,
+    StartTarget, replay,
+};
+use feddurzai::values::Bits;
 use std::alloc::Global;
 use std::process::Abort;
 use std::test::Fail;
-use x86_values::Bits;
 
 /// A function as hexadecimal digits at its address, and the replacement.
 #[derive(Clone, Copy)]
@@ -222,7 +223,7 @@ fn is_hooked(rt: &impl Abort, alloc: Global, hook: &Hook, wanted: &Hooked) -> Re
     is_taken(rt, alloc, &hook.original, wanted)
 }
 
-/// A third function is refused for want of a slot, before anything is told of it.
+/// A third function is refused if no slot is free, before its code is looked at.
 fn no_slot_is_free(
     rt: &impl Abort,
     alloc: Global,

@@ -130,6 +130,7 @@ read_digits (x ∷ (y ∷ (z ∷ zs))) b e = cc
 abbrev pub front : List ℕ
 front = codes "db 0x"
 
+-- the text of a single byte is its front and the byte in hexadecimal
 pub line_text : (b : ℕ) → single_byte_text Intel b ≡ front ++ hexadecimal b
 unfolding single_byte_text byte_directive number
 line_text b = refl

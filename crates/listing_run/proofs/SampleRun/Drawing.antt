@@ -14,12 +14,14 @@ nothing : (state : ℕ) → code_from state 0 ≡ []
 unfolding code_from
 nothing state = refl
 
+-- before the first draw nothing is made
 pub drawn-start : (n state : ℕ) (code : List ℕ) → state ≡ n → code ≡ [] → Drawn n state 0 code
 unfolding sample_code
 drawn-start n state code same empty =
     let all : n - 0 ≡ n = omega arith in
     ap (λ (xs : List ℕ). xs ++ code_from state (n - 0)) empty ∙ (ap (code_from state) all ∙ ap (λ (x : ℕ). code_from x n) same)
 
+-- a draw adds the next piece of made code
 pub drawn-step : (n state next done : ℕ) (code code' : List ℕ) → done < n → Drawn n state done code → next ≡ next_state state →
     code' ≡ code ++ instr_bytes (next / 2 ^ 33) → Drawn n next (done + 1) code'
 unfolding drawn_number
@@ -33,6 +35,7 @@ drawn-step n state next done code code' lt h is e =
     ∙ (ap (λ (xs : List ℕ). code ++ xs) (sym more)
     ∙ (ap (λ (k : ℕ). code ++ code_from state k) (sym left) ∙ h)))
 
+-- after the last draw the code is the made code
 pub drawn-end : (n state done : ℕ) (code : List ℕ) → n ≤ done → Drawn n state done code → code ≡ sample_code n
 drawn-end n state done code le h =
     let none : n - done ≡ 0 = omega arith in

@@ -35,6 +35,7 @@ use Rattle.listing_run.proofs.SampleRun.Reaching.{ends-inside, with_target-reach
 is_instruction : (item : Item) → IsMade item → IsInstruction item
 is_instruction item made = ap error_of made.reads
 
+-- items of made code are instructions
 pub are_instructions : (items : List Item) → All IsMade items → All IsInstruction items
 are_instructions [] all = All-nil IsInstruction
 are_instructions (item ∷ items) all =

@@ -67,26 +67,34 @@ rows_are = refl
 
 -- ---- each stands in the table at its code
 
+-- code 290 is NOP
 pub at-nop : slice_get table 290 ≡ Some nop_row
 at-nop = let h = rows_are in cc
 
+-- code 275 is the store that made code has
 pub at-store : slice_get table 275 ≡ Some store_row
 at-store = let h = rows_are in cc
 
+-- code 346 is the move of a number
 pub at-number : slice_get table 346 ≡ Some number_row
 at-number = let h = rows_are in cc
 
+-- code 278 is the load of 32 bits
 pub at-load : slice_get table 278 ≡ Some load_row
 at-load = let h = rows_are in cc
 
+-- code 169 is the short Jcc that made code has
 pub at-branch : slice_get table 169 ≡ Some branch_row
 at-branch = let h = rows_are in cc
 
+-- code 623 is the near CALL
 pub at-call : slice_get table 623 ≡ Some call_row
 at-call = let h = rows_are in cc
 
+-- code 279 is the load of 64 bits
 pub at-wide_load : slice_get table 279 ≡ Some wide_load_row
 at-wide_load = let h = rows_are in cc
 
+-- code 1496 is the VEX addition
 pub at-add : slice_get table 1496 ≡ Some add_row
 at-add = let h = rows_are in cc

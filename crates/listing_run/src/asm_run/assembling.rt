@@ -15,7 +15,7 @@ use x86_values::Bits;
 
 /// Reads the source to its end, as lines of code of a mode whose first byte has the address `base`, and writes the bytes of all lines.
 ///
-/// Each line is ended by a line feed; bytes behind the last one are one more line. A line is the Intel text of an instruction, which stands behind the bytes
+/// Each line is ended by a line feed; bytes behind the last one are one more line. A line is the Intel text of an instruction, which follows the bytes
 /// of the lines before it, at an address that wraps in the mode; or `db` and the number of a single byte, as `db 0x66`.
 ///
 /// In this order: `ReadFault`, `TooLarge` above 1,048,576 bytes, `BadText` at the first line that is neither, `WriteFault`; `Memory` at any point before

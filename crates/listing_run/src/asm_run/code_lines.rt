@@ -9,7 +9,7 @@ use std::alloc::Global;
 use sweep::run_parts::Status;
 use x86_values::{Bits, wrap};
 
-/// The first line of some bytes without its line feed, and what stands behind that.
+/// The first line of some bytes without its line feed, and what follows that.
 fn first_line(bytes: &[u8]) -> (&[u8], &[u8])
     requires { 0 < length bytes.now }
     ensures lines { lines_in bytes.now ≡ result.0.now ∷ lines_in result.1.now }

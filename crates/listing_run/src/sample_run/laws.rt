@@ -27,7 +27,7 @@ pub fn samples_have_one_text()
     sweeps_agree();
 }
 
-/// The moving of made code is refused for want of memory alone: each of its instructions is aimed low, and reaches its target from its new place.
+/// The moving of made code is refused for lack of memory alone: each of its instructions is aimed low, and reaches its target from its new place.
 #[inline]
 pub fn made_code_reaches_its_targets()
     ensures { MadeFacts }

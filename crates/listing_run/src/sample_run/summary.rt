@@ -25,7 +25,7 @@ use x86_values::{Bits, Instr};
 /// The address that made code is moved to.
 pub const MOVED_BASE: u64 = 0x1040_0000;
 
-/// What is told of made code.
+/// What the command states of made code.
 #[derive(Clone, Copy)]
 pub struct Summary {
     /// How many instructions were made.
@@ -101,7 +101,7 @@ fn sum_of(bytes: &[u8]) -> u128
     sum
 }
 
-/// Makes some instructions, lists them in the Intel style at 400000 and moves them to 10400000 in 64-bit mode, and answers what comes of it. It may want
+/// Makes some instructions, lists them in the Intel style at 400000 and moves them to 10400000 in 64-bit mode, and answers what comes of it. It may lack
 /// memory, and nothing else hinders it: made code has instructions alone, and each reaches its target from its new place.
 pub fn summarize(alloc: Global, count: u32) -> Result<Summary, Status>
     requires { count ≤ 65536 }

@@ -12,7 +12,7 @@ use crate::moved_targets::plain_length;
 use branch_sizes::Form;
 use x86_values::{Bits, Instr};
 
-/// 66 stands before a branch for an operand size of 16 or 32 bits that is not the mode's own.
+/// 66 precedes a branch for an operand size of 16 or 32 bits that is not the mode's own.
 fn size_byte(bits: Bits, size: Bits) -> u8
     ensures value { result ≡ spec.size_byte bits size }
     ensures small { result ≤ 1 }

@@ -93,7 +93,7 @@ fn bridge_jump(branch: RelativeBranch, target: u64) -> Instr
     branch_to(near_code(Action::Jump, branch.size), None, target)
 }
 
-/// How many bytes of a bridge stand before its near jump: the branch, and the short jump over what follows.
+/// How many bytes of a bridge precede its near jump: the branch, and the short jump over what follows.
 #[tactic(auto, unfolding(crate::specs::BranchForms::Images::bridge_inner))]
 pub fn bridge_inner(bits: Bits, branch: RelativeBranch, asize: Option<Bits>) -> u8
     ensures value { result ≡ spec.bridge_inner bits branch asize }

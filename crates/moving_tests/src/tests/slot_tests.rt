@@ -67,7 +67,7 @@ fn finishes(rt: &impl Abort, slots: &mut StepSlots, place: u64, want: Result<(),
 /// The bytes of NOP, the jump back from 2001, and CC to the next slot.
 const FIRST: &[u8] = b"\x90\xe9\xfb\xef\xff\xff\xcc\xcc\xcc\xcc\xcc\xcc\xcc\xcc\xcc\xcc";
 
-/// The same where the jump back stands at 2011.
+/// The slot where the jump back stands at 2011.
 const SECOND: &[u8] = b"\x90\xe9\xeb\xef\xff\xff\xcc\xcc\xcc\xcc\xcc\xcc\xcc\xcc\xcc\xcc";
 
 /// A slot that is free.
@@ -148,7 +148,7 @@ const FULL: Result<u64, StepError> = Err(StepError::Full {
 
 const FAR: Result<u64, StepError> = Err(StepError::TooFar { target: 0x1007 });
 
-/// Reads what stands behind it.
+/// Reads what follows it.
 const LOAD: &str = "488b0500000000";
 
 /// That a step of an instruction at 1000 is answered so in a range of so many bytes for one slot, which has these bytes then.

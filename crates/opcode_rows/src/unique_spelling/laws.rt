@@ -10,7 +10,7 @@ ghost use Rattle.opcode_rows.specs.Table.{table};
 ghost use Rattle.opcode_rows.specs.UniqueSpelling.FieldsOf.{fields_of, first_byte};
 
 /// Where a spelling fits a row of the table, the row's conditions hold on the nine fields that the spelling's prefixes, VEX, opcode byte and the
-/// byte behind it give, whatever stands behind the spelling.
+/// byte behind it give, whatever follows the spelling.
 pub fn fitting_rows_hold()
     ensures { (bits : Bits) (code : ℕ) (row : Row) (s : Spelling) (rest : List ℕ)
         → slice_get table code ≡ Some row → IsTrue (fits bits row s)

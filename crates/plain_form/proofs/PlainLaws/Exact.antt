@@ -50,6 +50,7 @@ in_mode B16 row h = (and_parts (writable_in B16 row) _ h).0
 in_mode B32 row h = (and_parts (writable_in B32 row) _ (and_parts (writable_in B16 row) _ h).1).0
 in_mode B64 row h = (and_parts (writable_in B64 row) _ (and_parts (writable_in B32 row) _ (and_parts (writable_in B16 row) _ h).1).1).0
 
+-- a row that can be written can be written in each mode that has it
 pub writable_row : (bits : Bits) (row : Row) → writable row ≡ true → exists_in bits row ≡ true → Writable bits row
 unfolding writable writable_in
 writable_row bits row h e =
@@ -84,6 +85,7 @@ writable_row bits row h e =
 
 -- ---- from the conditions to the spelling
 
+-- what is given of a suitable instruction of a table
 pub given_fit : (table : List Row) (bits : Bits) (ip : ℕ) (row : Row) (i : Instr) → IsWritable table → slice_get table i.code.0 ≡ Some row → length i.ops ≡ 4 → Suits bits ip row i → fit.Given bits ip row i
 given_fit table bits ip row i w at four a = record {
   is_sound = sound_conditions row (w.is_sound i.code.0 row at);
@@ -160,6 +162,7 @@ constructed_bytes table bits ip bytes i w p =
     p.bytes_are
     ∙ ap (bytes_of p.row) (one_plain bits ip p.row p.spelling i (given_need table bits ip p.row p.spelling i w p.row_is p.fitting p.means) (four_of bits ip p.row p.spelling i p.means) p.plain)
 
+-- an instruction has one plain spelling
 pub plain_is_one : (table : List Row) (bits : Bits) (ip : ℕ) (bytes others : List ℕ) (i : Instr) → IsWritable table → IsPlainlySpelled table bits ip bytes i → IsPlainlySpelled table bits ip others i → bytes ≡ others
 plain_is_one table bits ip bytes others i w p q =
     constructed_bytes table bits ip bytes i w p ∙ ap (λ (r : Row). bytes_of r (plain_spelling bits ip r i)) (same_row table i.code.0 p.row q.row p.row_is q.row_is)

@@ -7,6 +7,7 @@ use Rattle.instruction_parts.specs.declared.row_types.Row.{Row}
 use Rattle.row_relation.specs.Spells.{Spells, ReadsAs}
 use Rattle.plain_form.specs.PlainLaws.Plain.{IsPlainlySpelled}
 
+-- a plain spelling spells its instruction
 pub plain_spells : (table : List Row) (bits : Bits) (ip : ℕ) (bytes : List ℕ) (i : Instr) → IsPlainlySpelled table bits ip bytes i → Spells table bits ip bytes i
 plain_spells table bits ip bytes i p =
     (p.is_short, (p.row, p.row_is, (p.spelling, record { bytes_are = sym p.bytes_are; fitting = p.fitting; means = p.means })))

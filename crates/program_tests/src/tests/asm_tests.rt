@@ -41,7 +41,7 @@ fn lines_have_their_bytes(rt: HostRuntime) -> Result<(), Fail> {
     Ok(())
 }
 
-/// What is told of a line that is no text, by its number.
+/// The message for a line that is no text, by its number.
 fn bad_text(alloc: Global, at: u64) -> Result<String, AllocError> {
     format!(in alloc; "bad text in line {at}\n")
 }

@@ -98,7 +98,7 @@ fn code_that_is_refused_leaves_nothing(rt: HostRuntime) -> Result<(), Fail> {
     Ok(())
 }
 
-/// What is told of an input with more bytes than are read.
+/// The message for an input with more bytes than are read.
 const LARGE: &str = "input over 1048576 bytes\n";
 
 /// How many bytes there are, for a message.

@@ -15,7 +15,7 @@ const BAD: &str = "bad code at 0: invalid\n";
 /// A line of flow and the first byte of a second one.
 const FRONT: &str = "0000000000000000 0000000000000000 Next\n0";
 
-/// What is told of one made instruction.
+/// What the command states of one made instruction.
 const ONE: &str = "instructions 1\nbytes 7\ntext 78\nmoved 7\ngrown 0\nsum 824\n";
 
 #[test]

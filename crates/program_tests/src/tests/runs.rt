@@ -112,7 +112,7 @@ fn outcome_of<S: Source + Drop>(
     })
 }
 
-/// What a command, whose words are parted by single spaces, gives for an input between such ports. The only refusal is want of memory.
+/// What a command, whose words are parted by single spaces, gives for an input between such ports. The only refusal is lack of memory.
 pub(crate) fn run_between(
     alloc: Global,
     command: &str,
@@ -127,7 +127,7 @@ pub(crate) fn run_between(
     }
 }
 
-/// What a command, whose words are parted by single spaces, gives for an input. The only refusal is want of memory.
+/// What a command, whose words are parted by single spaces, gives for an input. The only refusal is lack of memory.
 pub(crate) fn run_command(
     alloc: Global,
     command: &str,

@@ -6,7 +6,7 @@ use std::alloc::{AllocError, Global};
 use std::process::Abort;
 use std::test::Fail;
 
-/// What is told of a wrong word, by its number.
+/// The message for a wrong word, by its number.
 fn wrong_word(alloc: Global, word: u64) -> Result<String, AllocError> {
     format!(in alloc; "usage: word {word}\n")
 }

@@ -1,7 +1,6 @@
 use crate::whole_runs::compare::same;
 use crate::whole_runs::ports::{run_at_once, run_slowly};
-use decoder::DecodeError;
-use listing_run::Status;
+use listing_run::{DecodeError, Status};
 use std::str::from_utf8;
 use std::test::Fail;
 
@@ -25,7 +24,7 @@ const CODE: &[u8] = &[
 ];
 
 /// Runs over [`CODE`], given a byte at a time: the command, the pull and the put that fail (0: none), the status, and how many lines of `nop` stand. A pull
-/// that would come too early, or a call behind the last one, is told by its fault.
+/// that would come too early, or a call behind the last one, is shown by its fault.
 const RUNS: &[(&[&str], u64, u64, Status, usize)] = &[
     // each pull finds the lines of the items of which 15 bytes were given before it
     (LIST, 15, 0, Status::ReadFault, 0),

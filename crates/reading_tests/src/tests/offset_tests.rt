@@ -1,4 +1,4 @@
-//! Where the parts of instructions stand in their bytes, counted by hand.
+//! Where the parts of instructions stand in their bytes, counted in the manual's notation.
 
 use crate::tests::compare::{same_text, same_value};
 use decoder::DecodeError;

@@ -85,7 +85,7 @@ fn general_register(word: &str) -> Option<u8> {
     }
 }
 
-/// A register of a class by what stands behind the letters of the class.
+/// A register of a class by what follows the letters of the class.
 fn register_by_number(
     word: &str,
     letters: &str,

@@ -5,6 +5,7 @@ use Rattle.std.proofs.Math.ListN.{length-set}
 use Rattle.std.proofs.lemmas.Bool.{eq-eqb, ne_eqb}
 use Rattle.std.specs.Fmt.{digits, digit_glyph, digits_onto}
 
+-- 64 digits are enough for each number
 pub all-digits : (base : ℕ) (upper : Bool) (n : ℕ) → digits_onto 64 base upper n [] ≡ digits base upper n
 unfolding digits
 all-digits base upper n = refl

@@ -4,6 +4,7 @@ use Rattle.std.proofs.Math.Seq.{take-length}
 use Rattle.byte_ports.specs.Ports.{Rose, HasCause, with_back}
 use Rattle.sweep.specs.RunParts.Writing.{HoldsFront, Says}
 
+-- what an error output holds after a text was put
 pub says : {E : Type 0} (old new : Option (List ℕ)) (text : List ℕ) (before after : ℕ) (r : Result (Unit {0}) E) →
     OnOk r (new ≡ with_back old text) → OnErr r (HoldsFront old new text) → HasCause before after r →
     Says old new text (Rose before after)

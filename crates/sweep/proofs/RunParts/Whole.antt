@@ -9,6 +9,7 @@ all_bytes limit bytes (Some rest) read h =
     let e : Some bytes ≡ Some (read ++ rest) = h.read in
     let same : bytes ≡ read ++ rest = cc in same ∙ (ap (λ (xs : List ℕ). read ++ xs) h.ended ∙ append-nil read)
 
+-- a source that gives too many bytes has more than the limit
 pub too_many : (limit : ℕ) (bytes : List ℕ) (left' : Option (List ℕ)) (read : List ℕ) → ReadsTooMany limit (Some bytes) left' read → limit < length bytes
 too_many limit bytes None read h = let e = h.read in cc
 too_many limit bytes (Some rest) read h =

@@ -16,10 +16,12 @@ takes_some (Ok d) n sized some = record { some = sized.0; within = sized.2 }
 takes_some (Err Invalid) n sized some = record { some = omega arith; within = omega arith }
 takes_some (Err TooShort) n sized some = record { some = omega arith; within = omega arith }
 
+-- the error of a reading is the decoder's
 pub error_is : (e : DecodeError) → error_of (reading_of (Err e)) ≡ Some e
 error_is Invalid = refl
 error_is TooShort = refl
 
+-- at offset 0 nothing is swept
 pub swept-start : (bits : Bits) (base : ℕ) (bytes : List ℕ) → SweptTo bits base bytes 0 []
 swept-start bits base bytes = record { within = omega arith; go_on = λ more rest sweeps. sweeps }
 

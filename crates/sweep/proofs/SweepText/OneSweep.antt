@@ -5,6 +5,7 @@ use Rattle.row_relation.specs.Spells.{Reading}
 use Rattle.decoder.specs.OneReading.{OneReadingFacts}
 use Rattle.opcode_rows.specs.Sweep.{Item, IsReadAt, IsItemAt, Sweeps, IsSweep, item_len}
 
+-- lists that begin each other are equal
 pub begin_each_other : (a b m n : List Item) → b ≡ a ++ m → a ≡ b ++ n → a ≡ b
 begin_each_other a b [] n e f = sym (e ∙ append-nil a)
 begin_each_other a b (x ∷ m) n e f = absurd (omega (arith, ap length e, ap length f, length-append a (x ∷ m), length-append b n))

@@ -97,7 +97,7 @@ fn append_text(
 
 /// Appends the line of an item: its address, its bytes and its text.
 ///
-/// `base` is the address of the first byte of the code, `offset` how far the item stands behind it, `bytes` the bytes
+/// `base` is the address of the first byte of the code, `offset` how far the item follows it, `bytes` the bytes
 /// of the item, and `reading` what is read at its front; its text is written in the style `syntax`.
 #[inline(always)]
 #[tactic(auto, using(crate::proofs::SweepText::Lengths::line_parts), unfolding(crate::specs::SweepText::Listing::item_line))]

@@ -27,7 +27,7 @@ pub enum Lines {
     /// instruction. There is no line for a single byte.
     Info,
     /// The bytes of the plain spelling of each instruction in the mode `to`, as far behind the address `new_base` as the
-    /// instruction stands behind the first byte. Where it has none, as `! 3 1`: the number of the first condition that fails,
+    /// instruction follows the first byte. Where it has none, as `! 3 1`: the number of the first condition that fails,
     /// and the operand that it names. There is no line for a single byte.
     Recode { to: Bits, new_base: u64 },
 }
@@ -87,7 +87,7 @@ fn append_recode_line(
 
 /// Appends the line of an item, nothing where the command has none.
 ///
-/// `base` is the address of the first byte of the code, `offset` how far the item stands behind it, `bytes` the bytes
+/// `base` is the address of the first byte of the code, `offset` how far the item follows it, `bytes` the bytes
 /// of the item, and `reading` what is read at its front.
 #[inline(always)]
 pub fn append_line(

@@ -12,7 +12,7 @@ use text_parts::style::Style;
 use text_parts::text::{TEXT_LEN, Text, append};
 use x86_values::{Bits, Instr};
 
-/// The directive that stands before the number of a single byte.
+/// The directive that precedes the number of a single byte.
 #[inline]
 #[tactic(auto, unfolding(crate::specs::SweepText::Listing::byte_directive))]
 fn byte_directive(syntax: Style) -> &'static [u8]

@@ -1,0 +1,255 @@
+/*
+ * The examples in the comments of feddurzai.h, each with what its comment says of the result. test.sh compares the two: each
+ * indented line of a comment is a line of this file too. C99 and C++11.
+ */
+#include "feddurzai.h"
+
+#include "check.h"
+
+#include <inttypes.h>
+#include <stdlib.h>
+#include <string.h>
+
+/* the arguments of the examples, fresh for each */
+static feddurzai_instr instr, instrs[16];
+static feddurzai_byte_offsets parts;
+static feddurzai_about about;
+static feddurzai_touched touched;
+static feddurzai_moved map[4];
+static uint8_t bytes[FEDDURZAI_MAX_LEN + 1], out[64], image[4096], patch[FEDDURZAI_MAX_PATCH], trampoline[64], kinds[4], access;
+static uint32_t starts[4], leaders[4];
+static char text[FEDDURZAI_MAX_TEXT];
+static int32_t len, said;
+
+/* Whether some bytes are those of a string. */
+#define CHECK_BYTES(got, want) CHECK(memcmp(got, want, sizeof want - 1), 0)
+#define CHECK_TEXT(want) CHECK(strcmp(text, want), 0)
+
+static int versions(void)
+{
+    if (feddurzai_interface() != FEDDURZAI_INTERFACE)
+        return 1;
+    return 0;
+}
+
+static void causes(void)
+{
+    int32_t said = feddurzai_decode(64, 0x1000, (const uint8_t *)"\x2e\x2e\x74\x7f", 4, &instr);
+    CHECK(said, 4);
+    said = feddurzai_encoded_len(64, 0x1000, &instr);
+    if (FEDDURZAI_CAUSE(said) == FEDDURZAI_CAUSE_TARGET)
+        printf("operand %d is out of reach\n", (int)FEDDURZAI_CAUSE_OPERAND(said));
+    CHECK(FEDDURZAI_CAUSE(said), FEDDURZAI_CAUSE_TARGET);
+    CHECK(FEDDURZAI_CAUSE_OPERAND(said), 0);
+}
+
+static void made(void)
+{
+    memset(&instr, 0, sizeof instr);
+    instr.code = FEDDURZAI_CODE_PUSH_R64;
+    instr.ops[0].kind = FEDDURZAI_REGISTER;
+    instr.ops[0].reg_class = FEDDURZAI_R64;
+    instr.ops[0].reg_number = 8;
+    len = feddurzai_encode(64, 0, &instr, bytes, sizeof bytes);        // 2: 41 50, push r8
+    CHECK(len, 2);
+    CHECK_BYTES(bytes, "\x41\x50");
+
+    memset(&instr, 0, sizeof instr);
+    instr.code = FEDDURZAI_CODE_MOV_RM64_R64;
+    instr.asize = 64;
+    instr.ops[0].kind = FEDDURZAI_MEMORY;
+    instr.ops[0].reg_class = FEDDURZAI_R64;
+    instr.ops[0].reg_number = FEDDURZAI_SP;
+    instr.ops[0].scale = 1;
+    instr.ops[0].value = 0x10;
+    instr.ops[0].disp_bits = FEDDURZAI_DISP_SHORTEST;
+    instr.ops[1].kind = FEDDURZAI_REGISTER;
+    instr.ops[1].reg_class = FEDDURZAI_R64;
+    instr.ops[1].reg_number = FEDDURZAI_BX;
+    len = feddurzai_encode(64, 0, &instr, bytes, sizeof bytes);        // 5: 48 89 5c 24 10, mov qword [rsp+0x10], rbx
+    CHECK(len, 5);
+    CHECK_BYTES(bytes, "\x48\x89\x5c\x24\x10");
+}
+
+static void decoded(void)
+{
+    int32_t len = feddurzai_decode(64, 0x1000, (const uint8_t *)"\x48\x89\x5c\x24\x10", 5, &instr);
+    if (len > 0 && feddurzai_text(64, FEDDURZAI_INTEL, &instr, text, sizeof text) >= 0)
+        puts(text);                                                    // mov qword [rsp+0x10], rbx
+    CHECK(len, 5);
+    CHECK_TEXT("mov qword [rsp+0x10], rbx");
+
+    len = feddurzai_offsets(64, (const uint8_t *)"\x48\x89\x5c\x24\x10", 5, &parts);
+    printf("displacement: %d byte at %d\n", parts.displacement.len, parts.displacement.at);    // 1 byte at 4
+    CHECK(len, 5);
+    CHECK(parts.displacement.len, 1);
+    CHECK(parts.displacement.at, 4);
+
+    len = feddurzai_text(64, FEDDURZAI_ATT, &instr, text, sizeof text);     // 21: movq %rbx, 0x10(%rsp)
+    CHECK(len, 21);
+    CHECK_TEXT("movq %rbx, 0x10(%rsp)");
+}
+
+static void decoded_many(void)
+{
+    size_t count;
+    int32_t taken = feddurzai_decode_many(64, 0x1000, (const uint8_t *)"\x90\x06\xc3", 3, instrs, 16, &count);
+    // taken is 3, count is 3, and instrs[1].code is FEDDURZAI_CODE_INVALID: 06 begins no instruction of 64-bit code
+    CHECK(taken, 3);
+    CHECK(count, 3);
+    CHECK(instrs[1].code, FEDDURZAI_CODE_INVALID);
+}
+
+static void printed_and_read(void)
+{
+    const char *wanted = "je 0x1010";
+    len = feddurzai_line(64, FEDDURZAI_INTEL, 0x1000, (const uint8_t *)"\x74\x10", 2, NULL, text, sizeof text);
+    // len is 2, and text is je 0x1012
+    CHECK(len, 2);
+    CHECK_TEXT("je 0x1012");
+    len = feddurzai_assemble(64, 0x1000, wanted, strlen(wanted), bytes, sizeof bytes);         // 2: 74 0e
+    CHECK(len, 2);
+    CHECK_BYTES(bytes, "\x74\x0e");
+    len = feddurzai_jump(64, 0x1000, 0x1010, FEDDURZAI_JUMP_NEAR, bytes, sizeof bytes);        // 5: e9 0b 00 00 00
+    CHECK(len, 5);
+    CHECK_BYTES(bytes, "\xe9\x0b\x00\x00\x00");
+}
+
+static void analysed(void)
+{
+    feddurzai_decode(64, 0x1000, (const uint8_t *)"\x74\x10", 2, &instr);       // je 0x1012
+    if (feddurzai_info(&instr, &about) == 0 && about.flow == FEDDURZAI_FLOW_CONDITIONAL)
+        printf("branches to %" PRIx64 "\n", about.target);                      // 1012
+    CHECK(about.flow, FEDDURZAI_FLOW_CONDITIONAL);
+    CHECK(about.target, 0x1012);
+
+    feddurzai_decode(64, 0, (const uint8_t *)"\x53", 1, &instr);                // push rbx
+    if (feddurzai_effects(64, &instr, &touched) == 0)
+        printf("%d registers, %d bytes of memory\n", touched.register_count, touched.memory[0].size);
+    // 2 registers: RBX is read, RSP is read and written. 8 bytes at ss:[rsp-8] are written
+    CHECK(touched.register_count, 2);
+    CHECK(touched.registers[0].reg_number, FEDDURZAI_BX);
+    CHECK(touched.registers[0].access, FEDDURZAI_READ);
+    CHECK(touched.registers[1].reg_number, FEDDURZAI_SP);
+    CHECK(touched.registers[1].access, FEDDURZAI_READ_WRITE);
+    CHECK(touched.memory[0].size, 8);
+    CHECK(touched.memory[0].segment, FEDDURZAI_SS);
+    CHECK(touched.memory[0].displacement == (uint64_t)-8, 1);
+    CHECK(touched.memory[0].access, FEDDURZAI_WRITE);
+}
+
+static void named(void)
+{
+    size_t n;
+    int32_t code;
+    int32_t full = feddurzai_full_register(FEDDURZAI_HIGH8, 0);                 // AH
+    if (full >= 0)
+        feddurzai_register_text(FEDDURZAI_INTEL, (uint8_t)FEDDURZAI_FULL_CLASS(full), FEDDURZAI_FULL_NUMBER(full), text, 7);
+    // text is rax
+    CHECK_TEXT("rax");
+
+    len = feddurzai_row_operand(FEDDURZAI_CODE_MOV_RM64_R64, 0, &access, text, sizeof text);
+    // len is 2, text is Ev, and access is FEDDURZAI_WRITE
+    CHECK(len, 2);
+    CHECK_TEXT("Ev");
+    CHECK(access, FEDDURZAI_WRITE);
+
+    for (n = 0; (code = feddurzai_code_of("leave", 5, n)) >= 0; n++)
+        if (feddurzai_notation((uint32_t)code, text, sizeof text) >= 0)
+            puts(text);                                                // o16 C9, o32 C9, o64 C9
+    CHECK(n, 3);
+    CHECK_TEXT("o64 C9");
+}
+
+static void moved(void)
+{
+    feddurzai_move_report report;
+    // je 0x1012, moved out of reach: jne over jmp [rip], and the slot with the target
+    said = feddurzai_move(64, 0x1000, (const uint8_t *)"\x74\x10", 2, 0x7fff00000000, out, 64, map, 4, &report);
+    // said is 0, report.bytes is 16, report.code_bytes is 8, and map[0].form is FEDDURZAI_FAR_FORM
+    CHECK(said, 0);
+    CHECK(report.bytes, 16);
+    CHECK(report.code_bytes, 8);
+    CHECK(map[0].form, FEDDURZAI_FAR_FORM);
+    // a loop of one instruction goes back to its old address
+    said = feddurzai_move_outside(64, 0x1000, (const uint8_t *)"\xeb\xfe", 2, 0x1080, out, 64, map, 4, &report);
+    // said is 0, and out begins with e9 7b ff ff ff, jmp 0x1000
+    CHECK(said, 0);
+    CHECK_BYTES(out, "\xe9\x7b\xff\xff\xff");
+}
+
+static void allocated(void)
+{
+    feddurzai_region region = {0x10000, 4096, 0};
+    feddurzai_live live[64];
+    uint64_t place;
+    int32_t said = feddurzai_region_reserve(&region, live, 64, 17, &place);     // 0: place is 0x10000, with 32 bytes
+    CHECK(place, 0x10000);
+    CHECK(live[0].len, 32);
+    if (said == 0)
+        said = feddurzai_region_fill(&region, live, 64, place, (const uint8_t *)"\x90\xc3", 2, image, 4096);
+    CHECK_BYTES(image, "\x90\xc3\xcc");
+    if (said == 0)
+        said = feddurzai_region_release(&region, live, 64, place);
+    CHECK(said, 0);
+    CHECK(region.count, 0);
+}
+
+static void stepped(void)
+{
+    feddurzai_step_report report;
+    // call 0x2000 at 0x1000, to be stepped at 0x1800
+    len = feddurzai_step(64, 0x1000, (const uint8_t *)"\xe8\xfb\x0f\x00\x00", 5, 0x1800, out, sizeof out, &report);
+    // len is 10: e8 fb 07 00 00, call 0x2000, and e9 fb f7 ff ff, jmp 0x1005; report.back_at is 5
+    CHECK(len, 10);
+    CHECK_BYTES(out, "\xe8\xfb\x07\x00\x00\xe9\xfb\xf7\xff\xff");
+    CHECK(report.back_at, 5);
+}
+
+static void followed(void)
+{
+    static const uint32_t entries[] = {0};
+    // je 3; nop; ret
+    len = feddurzai_flow_from(64, 0, (const uint8_t *)"\x74\x01\x90\xc3", 4, entries, 1, starts, 4, leaders, 4, kinds, 4);
+    // len is 3: the offsets 0, 2 and 3 begin three basic blocks, and kinds[2] is FEDDURZAI_FLOW_RETURN
+    CHECK(len, 3);
+    CHECK(starts[0] << 8 | leaders[0], 0);
+    CHECK(starts[1] << 8 | leaders[1], 2 << 8 | 2);
+    CHECK(starts[2] << 8 | leaders[2], 3 << 8 | 3);
+    CHECK(kinds[2], FEDDURZAI_FLOW_RETURN);
+}
+
+static void hooked(void)
+{
+    feddurzai_detour_report report;
+    // sub rsp, 0x18; xor eax, eax; ret
+    static const uint8_t function[] = {0x48, 0x83, 0xec, 0x18, 0x31, 0xc0, 0xc3};
+    said = feddurzai_detour(64, 0x1000, function, sizeof function, 0x2000, 0x3000, FEDDURZAI_START_MOVED,
+        patch, sizeof patch, trampoline, sizeof trampoline, &report);
+    // said is 0. The patch is jmp 0x2000 and int3; the trampoline is sub, xor and, at report.jump_back, jmp 0x1006
+    CHECK(said, 0);
+    CHECK(report.taken, 6);
+    CHECK_BYTES(patch, "\xe9\xfb\x0f\x00\x00\xcc");
+    CHECK(report.bytes, 11);
+    CHECK_BYTES(trampoline, "\x48\x83\xec\x18\x31\xc0\xe9\xfb\xdf\xff\xff");
+    CHECK(report.jump_back, 6);
+}
+
+int main(void)
+{
+    CHECK(versions(), 0);
+    causes();
+    made();
+    decoded();
+    decoded_many();
+    printed_and_read();
+    analysed();
+    named();
+    moved();
+    allocated();
+    stepped();
+    followed();
+    hooked();
+    printf("%d checks of the header's examples, %d failed\n", tests, failures);
+    return failures != 0;
+}

@@ -1,0 +1,25 @@
+pub mod Refusals
+pub mod Numbers
+pub mod Offsets
+pub mod Flat
+pub mod Back
+pub mod Answers
+pub mod Lines
+pub mod Many
+pub mod Names
+pub mod Assembling
+pub mod Jumps
+pub mod Info
+pub mod RowOperands
+pub mod Effects
+pub mod Flow
+pub mod FlowFrom
+pub mod Moving
+pub mod Blocks
+pub mod Hooks
+pub mod Steps
+pub mod Failing
+pub mod Regions
+pub mod RegionSearch
+pub mod Sizes
+pub use Rattle.operand_info.specs.ByCode as RowColumns

@@ -1,0 +1,298 @@
+//! The structs that cross to C.
+
+/// An operand.
+#[derive(Clone, Copy)]
+#[repr(C)]
+pub struct FlatOperand {
+    /// The immediate, the near target, or the displacement of an address.
+    pub value: u64,
+    /// The offset of a far pointer.
+    pub offset: u32,
+    /// The selector of a far pointer.
+    pub selector: u16,
+    /// 0 none, 1 register, 2 memory, 3 immediate, 4 near target, 5 far pointer.
+    pub kind: u8,
+    /// The class of the register, or of the base of an address; 0 for no base.
+    pub reg_class: u8,
+    /// Its number in the class.
+    pub reg_number: u8,
+    /// The class of the index of an address; 0 for no index.
+    pub index_class: u8,
+    /// Its number in the class.
+    pub index_number: u8,
+    /// 1, 2, 4 or 8, and 1 without an index.
+    pub scale: u8,
+    /// How many bits of the displacement are written: 0, 8, 16, 32 or 64.
+    pub disp_bits: u8,
+}
+
+/// An instruction.
+#[derive(Clone, Copy)]
+#[repr(C)]
+pub struct FlatInstr {
+    pub op0: FlatOperand,
+    pub op1: FlatOperand,
+    pub op2: FlatOperand,
+    pub op3: FlatOperand,
+    /// The row of the table.
+    pub code: u16,
+    /// How many bytes were read.
+    pub len: u8,
+    /// 1 with a LOCK prefix, else 0.
+    pub lock: u8,
+    /// The repeat prefix F2 or F3, else 0.
+    pub rep: u8,
+    /// The segment prefix, 1 to 6 for ES, CS, SS, DS, FS and GS, else 0.
+    pub segment: u8,
+    /// The address size: 16, 32 or 64, or 0 if the instruction has none.
+    pub asize: u8,
+}
+
+/// A register that an instruction names, with what it does to it.
+#[derive(Clone, Copy, PartialEq, Eq, Debug)]
+#[repr(C)]
+pub struct FlatUse {
+    pub reg_class: u8,
+    pub reg_number: u8,
+    /// 0 nothing, 1 a read, 2 a write, 3 a read and a write.
+    pub access: u8,
+}
+
+/// What an instruction does.
+#[derive(Clone, Copy)]
+#[repr(C)]
+pub struct FlatInfo {
+    /// The target of a near branch, 0 without one.
+    pub target: u64,
+    /// The address of the memory operand that RIP or EIP is the base of, 0 without one.
+    pub ip_address: u64,
+    /// 1 if there is a near target, else 0.
+    pub has_target: u8,
+    /// 1 if there is a memory operand at RIP or EIP, else 0.
+    pub has_ip_address: u8,
+    /// Where control goes, 0 to 8.
+    pub flow: u8,
+    /// The size of the memory operand in bytes, 0 to 32; 0 if there is none, or none of a size.
+    pub memory_size: u8,
+    /// What is done to each operand, as in a use.
+    pub access: [u8; 4],
+    /// How many registers are named, at most 8.
+    pub use_count: u8,
+    /// Those registers, then zeros.
+    pub uses: [FlatUse; 8],
+}
+
+/// Memory that an instruction touches, with what it does there: an address of a segment, and a number of bytes.
+#[derive(Clone, Copy)]
+#[repr(C)]
+pub struct FlatMemoryUse {
+    /// The displacement, cut to the address size; at the base RIP or EIP the absolute address.
+    pub displacement: u64,
+    /// How many bytes, 0 if that is not known.
+    pub size: u16,
+    /// The segment register, 1 to 6 for ES, CS, SS, DS, FS and GS.
+    pub segment: u8,
+    /// The class of the base, 0 for none.
+    pub base_class: u8,
+    /// Its number in the class.
+    pub base_number: u8,
+    /// The class of the index, 0 for none.
+    pub index_class: u8,
+    /// Its number in the class.
+    pub index_number: u8,
+    /// 1, 2, 4 or 8.
+    pub scale: u8,
+    /// The bits of what is done.
+    pub access: u8,
+}
+
+/// What an instruction touches. What is done to a register or memory is a number of four bits: 1 read, 2 written, 4 and 8 the same under a condition.
+#[derive(Clone, Copy)]
+#[repr(C)]
+pub struct FlatTouched {
+    /// The CPUID features that it needs, by their bits.
+    pub features: u64,
+    /// The flags that it depends on: EFLAGS at their bits, C0 to C3 at bits 24, 25, 26 and 30.
+    pub flags_read: u32,
+    /// The flags that it gives a value.
+    pub flags_written: u32,
+    /// Those of them that become 0.
+    pub flags_cleared: u32,
+    /// Those of them that become 1.
+    pub flags_set: u32,
+    /// The flags that are undefined after it.
+    pub flags_undefined: u32,
+    /// Those of the written and undefined that it may leave as they were.
+    pub flags_kept: u32,
+    /// The memory, at most four uses, then zeros.
+    pub memory: [FlatMemoryUse; 4],
+    /// The registers, at most 32 uses, then zeros.
+    pub registers: [FlatUse; 32],
+    /// How many uses of memory there are.
+    pub memory_count: u8,
+    /// How many uses of registers there are.
+    pub register_count: u8,
+}
+
+/// An instruction that was moved.
+#[derive(Clone, Copy)]
+#[repr(C)]
+pub struct FlatMoved {
+    /// Its address before.
+    pub old_ip: u64,
+    /// The address of its image.
+    pub new_ip: u64,
+    /// How many bytes it had before.
+    pub len: u8,
+    /// The form of its image: 0 itself, 1 short, 2 near, 3 far, 4 bridge, 5 far bridge.
+    pub form: u8,
+}
+
+/// The numbers of a moving.
+#[derive(Clone, Copy)]
+#[repr(C)]
+pub struct FlatMove {
+    /// How many bytes the moved code has, with its slots.
+    pub bytes: u64,
+    /// How many instructions it has.
+    pub count: u64,
+    /// The offset of the byte at which none is read, or the number of the instruction that does not reach its target.
+    pub at: u64,
+    /// That target, or the end that passes the address space.
+    pub address: u64,
+    /// How many bytes the moved code has before the gap and its slots.
+    pub code_bytes: u64,
+    /// The offset of the first slot; the number of bytes if there is none.
+    pub slots_at: u64,
+}
+
+/// A block of code that is moved with others.
+#[derive(Clone, Copy)]
+#[repr(C)]
+pub struct FlatBlock {
+    /// The address of its first byte before.
+    pub old_ip: u64,
+    /// That address after.
+    pub new_ip: u64,
+    /// The offset of its first byte in the bytes of all blocks.
+    pub offset: u64,
+    /// How many bytes it has.
+    pub len: u64,
+}
+
+/// A moved block.
+#[derive(Clone, Copy)]
+#[repr(C)]
+pub struct FlatPlace {
+    /// How many moved bytes there are up to its end; the next block begins there.
+    pub end: u64,
+    /// How many bytes it has before the gap and its slots.
+    pub code_bytes: u64,
+    /// How many instructions it has.
+    pub count: u64,
+}
+
+/// The numbers of a moving of blocks.
+#[derive(Clone, Copy)]
+#[repr(C)]
+pub struct FlatBlocks {
+    /// How many bytes the moved blocks have together, with their slots.
+    pub bytes: u64,
+    /// How many instructions they have together.
+    pub count: u64,
+    /// The number of the block that fails, from 0; the number of blocks if no block is named.
+    pub block: u64,
+    /// In this block the offset of the byte at which none is read, or the number of the instruction that does not reach its target.
+    pub at: u64,
+    /// That target, or the end that passes the address space.
+    pub address: u64,
+}
+
+/// The numbers of a detour.
+#[derive(Clone, Copy)]
+#[repr(C)]
+pub struct FlatDetour {
+    /// How many bytes of the function are taken: those of the patch.
+    pub taken: u64,
+    /// How many bytes the trampoline has.
+    pub bytes: u64,
+    /// The offset of its jump back; the number of bytes if there is none.
+    pub jump_back: u64,
+    /// The offset of the first slot; the number of bytes if there is none.
+    pub slots_at: u64,
+    /// The offset of the relay; the number of bytes if there is none.
+    pub relay_at: u64,
+    /// The offset at which the code ends or does not go on as it has to, or the number of the instruction that does not reach its target.
+    pub at: u64,
+    /// The offset that is entered, the target that is not reached, how many bytes the jump has, or the end that passes the address space.
+    pub target: u64,
+    /// The form of the jump: 1 near, 2 near to a relay, 3 followed by the address; 0 without a detour.
+    pub form: u8,
+}
+
+/// The numbers of the code of a step.
+#[derive(Clone, Copy)]
+#[repr(C)]
+pub struct FlatStep {
+    /// How many bytes the code has.
+    pub bytes: u64,
+    /// The offset of its jump back, at the end of the image of the instruction.
+    pub back_at: u64,
+    /// The target that is not reached, or the end that passes the address space.
+    pub address: u64,
+    /// How many bytes the instruction had.
+    pub len: u8,
+}
+
+/// A fixed range of addresses in which blocks of code find a place.
+#[derive(Clone, Copy)]
+#[repr(C)]
+pub struct FlatRegion {
+    /// Its first address.
+    pub base: u64,
+    /// How many bytes it has.
+    pub size: u64,
+    /// How many blocks are live in it: the first ones of an array beside it.
+    pub count: u64,
+}
+
+/// A live block of a region.
+#[derive(Clone, Copy)]
+#[repr(C)]
+pub struct FlatLive {
+    /// The address where it starts.
+    pub place: u64,
+    /// How many bytes it takes.
+    pub len: u64,
+}
+
+/// A part of an instruction's bytes.
+#[derive(Clone, Copy)]
+#[repr(C)]
+pub struct FlatPart {
+    /// The offset of its first byte from the first one of the instruction.
+    pub at: u8,
+    /// How many bytes it has, 0 if it is not there.
+    pub len: u8,
+}
+
+/// Where the parts of an instruction are in its bytes, in their order.
+#[derive(Clone, Copy)]
+#[repr(C)]
+pub struct FlatOffsets {
+    /// The legacy prefixes and the REX.
+    pub prefixes: FlatPart,
+    /// The VEX, or the escape bytes 0F, 0F 38 or 0F 3A.
+    pub lead: FlatPart,
+    /// The opcode byte.
+    pub opcode: FlatPart,
+    pub modrm: FlatPart,
+    pub sib: FlatPart,
+    pub displacement: FlatPart,
+    /// The bytes after the displacement that are the first operand's own, and so on: an immediate, an offset of a branch, a far pointer, or the byte that names
+    /// a register.
+    pub immediate0: FlatPart,
+    pub immediate1: FlatPart,
+    pub immediate2: FlatPart,
+    pub immediate3: FlatPart,
+}

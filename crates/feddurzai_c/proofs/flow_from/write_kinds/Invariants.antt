@@ -1,6 +1,0 @@
-use Rattle.std.proofs.Common.{◌≡◌, ◌++◌, map, take, drop}
-use Rattle.feddurzai_c.specs.FlowFrom.{flow_kind_number}
-use Rattle.feddurzai_c.proofs.flow_from.write_kinds.Given as goal
-
-abbrev pub invariant-kinds : goal.invariant-kinds
-invariant-kinds l = l.out ≡ map flow_kind_number (take l.k l.flows) ++ drop l.k l.initial.out

@@ -1,6 +1,0 @@
-use Rattle.std.proofs.Common.{◌≡◌}
-use Rattle.feddurzai_c.specs.Moving.{entries}
-use Rattle.feddurzai_c.proofs.moved.entries_of.Given as goal
-
-abbrev pub invariant-entries : goal.invariant-entries
-invariant-entries l = l.list.items ≡ entries l.items l.starts l.forms l.k

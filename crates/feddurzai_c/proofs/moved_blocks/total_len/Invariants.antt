@@ -1,6 +1,0 @@
-use Rattle.std.proofs.Common.{◌≡◌, ◌≤◌, ◌*◌, ◌^◌, take}
-use Rattle.feddurzai_c.specs.Blocks.{total_len}
-use Rattle.feddurzai_c.proofs.moved_blocks.total_len.Given as goal
-
-abbrev pub invariant-each : goal.invariant-each
-invariant-each l = (l.total ≡ total_len (take l.b l.blocks)) × (l.total ≤ l.b * 2 ^ 64)

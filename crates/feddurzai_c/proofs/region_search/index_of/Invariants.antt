@@ -1,5 +1,0 @@
-use Rattle.feddurzai_c.proofs.RegionsLaid.{PassedTo}
-use Rattle.feddurzai_c.proofs.region_search.index_of.Given as goal
-
-abbrev pub invariant-live : goal.invariant-live
-invariant-live l = PassedTo l.limit l.place l.live l.k

@@ -1,0 +1,141 @@
+//! Structs of which nothing is written yet.
+
+use c_calls::flat::{
+    FlatBlocks, FlatDetour, FlatInfo, FlatInstr, FlatMemoryUse, FlatMove, FlatMoved, FlatOffsets,
+    FlatOperand, FlatPart, FlatPlace, FlatStep, FlatTouched, FlatUse,
+};
+
+const NO_OPERAND: FlatOperand = FlatOperand {
+    value: 0,
+    offset: 0,
+    selector: 0,
+    kind: 0,
+    reg_class: 0,
+    reg_number: 0,
+    index_class: 0,
+    index_number: 0,
+    scale: 0,
+    disp_bits: 0,
+};
+
+pub(crate) const NO_INSTR: FlatInstr = FlatInstr {
+    op0: NO_OPERAND,
+    op1: NO_OPERAND,
+    op2: NO_OPERAND,
+    op3: NO_OPERAND,
+    code: 0,
+    len: 0,
+    lock: 0,
+    rep: 0,
+    segment: 0,
+    asize: 0,
+};
+
+const NO_PART: FlatPart = FlatPart { at: 0, len: 0 };
+
+pub(crate) const NO_PARTS: FlatOffsets = FlatOffsets {
+    prefixes: NO_PART,
+    lead: NO_PART,
+    opcode: NO_PART,
+    modrm: NO_PART,
+    sib: NO_PART,
+    displacement: NO_PART,
+    immediate0: NO_PART,
+    immediate1: NO_PART,
+    immediate2: NO_PART,
+    immediate3: NO_PART,
+};
+
+pub(crate) const NO_USE: FlatUse = FlatUse {
+    reg_class: 0,
+    reg_number: 0,
+    access: 0,
+};
+
+/// A flow that is none, so that a call that leaves it is seen.
+pub(crate) const NO_INFO: FlatInfo = FlatInfo {
+    target: 0,
+    ip_address: 0,
+    has_target: 0,
+    has_ip_address: 0,
+    flow: 9,
+    memory_size: 0,
+    access: [0; 4],
+    use_count: 0,
+    uses: [NO_USE; 8],
+};
+
+const NO_MEMORY: FlatMemoryUse = FlatMemoryUse {
+    displacement: 0,
+    size: 0,
+    segment: 0,
+    base_class: 0,
+    base_number: 0,
+    index_class: 0,
+    index_number: 0,
+    scale: 0,
+    access: 0,
+};
+
+/// Sets and counts that `push` does not have.
+pub(crate) const UNTOLD: FlatTouched = FlatTouched {
+    features: 1,
+    flags_read: 1,
+    flags_written: 1,
+    flags_cleared: 1,
+    flags_set: 1,
+    flags_undefined: 1,
+    flags_kept: 1,
+    memory: [NO_MEMORY; 4],
+    registers: [NO_USE; 32],
+    memory_count: 9,
+    register_count: 9,
+};
+
+pub(crate) const NO_ENTRY: FlatMoved = FlatMoved {
+    old_ip: 0,
+    new_ip: 0,
+    len: 0,
+    form: 0,
+};
+
+pub(crate) const NO_MOVE: FlatMove = FlatMove {
+    bytes: 0,
+    count: 0,
+    at: 0,
+    address: 0,
+    code_bytes: 0,
+    slots_at: 0,
+};
+
+pub(crate) const NO_BLOCKS: FlatBlocks = FlatBlocks {
+    bytes: 0,
+    count: 0,
+    block: 0,
+    at: 0,
+    address: 0,
+};
+
+pub(crate) const NO_PLACE: FlatPlace = FlatPlace {
+    end: 0,
+    code_bytes: 0,
+    count: 0,
+};
+
+pub(crate) const NO_DETOUR: FlatDetour = FlatDetour {
+    taken: 0,
+    bytes: 0,
+    jump_back: 0,
+    slots_at: 0,
+    relay_at: 0,
+    at: 9,
+    target: 9,
+    form: 0,
+};
+
+pub(crate) const NO_STEP: FlatStep = FlatStep {
+    bytes: 9,
+    back_at: 9,
+    address: 9,
+    len: 9,
+};

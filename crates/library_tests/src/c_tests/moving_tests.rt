@@ -1,0 +1,196 @@
+//! Moving and following code, and detours.
+
+use crate::c_tests::compare::{answers, are, are_offsets, gave, wrote};
+use crate::c_tests::empty::{NO_BLOCKS, NO_DETOUR, NO_ENTRY, NO_MOVE, NO_PLACE};
+use c_calls::blocks::move_blocks;
+use c_calls::flat::{FlatBlock, FlatDetour, FlatMove, FlatMoved, FlatPlace};
+use c_calls::flow::flow;
+use c_calls::flow_from::flow_from;
+use c_calls::hooks::make_detour;
+use c_calls::moving::{move_code, move_outside};
+use std::process::Abort;
+
+/// That a moving has so many instructions and bytes, and where the code ends and the slots begin.
+fn is_moved(rt: &impl Abort, of: &str, answer: i32, report: &FlatMove, want: &[u64]) {
+    let found = [
+        report.count,
+        report.bytes,
+        report.code_bytes,
+        report.slots_at,
+    ];
+    gave(rt, of, answer, &found, 0, want);
+}
+
+/// That an instruction of 2 bytes at 1000 went to a place in a form.
+fn is_entry(rt: &impl Abort, entry: &FlatMoved, place: u64, form: u64) {
+    let found = [
+        entry.old_ip,
+        entry.new_ip,
+        entry.len as u64,
+        entry.form as u64,
+    ];
+    are(rt, "the map", &found, &[0x1000, place, 2, form]);
+}
+
+/// Beyond the reach of 32 bits.
+const FAR: u64 = 0x7fff_0000_0000;
+
+// `je` over 16 bytes, moved beyond the reach of 32 bits, in the form of number 3.
+#[test]
+fn code_is_moved(rt: HostRuntime) {
+    let (mut out, mut map) = ([0; 16], [NO_ENTRY]);
+    let mut report = NO_MOVE;
+    let je = &[0x74, 0x10];
+    let answer = move_code(
+        rt.alloc(),
+        64,
+        0x1000,
+        je,
+        FAR,
+        &mut out,
+        &mut map,
+        &mut report,
+    );
+    is_moved(&rt, "the move", answer, &report, &[1, 16, 8, 8]);
+    let want = b"\x75\x06\xff\x25\0\0\0\0\x12\x10\0\0\0\0\0\0";
+    wrote(&rt, "the bytes", answer, &out, 0, want);
+    is_entry(&rt, &map[0], FAR, 3);
+}
+
+// `jmp` to itself: moved by itself it still goes to where it was.
+#[test]
+fn code_is_moved_outside(rt: HostRuntime) {
+    let (mut out, mut map) = ([0xaa; 3], [NO_ENTRY]);
+    let mut report = NO_MOVE;
+    let jump = &[0xeb, 0xfe];
+    let answer = move_outside(
+        rt.alloc(),
+        64,
+        0x1000,
+        jump,
+        0x1040,
+        &mut out,
+        &mut map,
+        &mut report,
+    );
+    is_moved(&rt, "the move", answer, &report, &[1, 2, 2, 2]);
+    wrote(&rt, "the bytes", answer, &out, 0, b"\xeb\xbe\xaa");
+    is_entry(&rt, &map[0], 0x1040, 1);
+}
+
+// What is reached from the first byte.
+#[test]
+fn code_is_followed(rt: HostRuntime) {
+    let (mut starts, mut leaders) = ([0; 4], [9; 4]);
+    let code = &[0x74, 0x01, 0x90, 0xc3];
+    let count = flow(rt.alloc(), 64, 0, code, &mut starts, &mut leaders);
+    are_offsets(&rt, "the starts", &starts, &[0, 2, 3, 0]);
+    are_offsets(&rt, "the leaders", &leaders, &[0, 2, 3, 9]);
+    answers(&rt, "the count", count, 3);
+}
+
+// From offset 2, in a mode that has no byte 06.
+#[test]
+fn code_is_followed_from_an_offset(rt: HostRuntime) {
+    let (mut starts, mut leaders) = ([0; 4], [9; 4]);
+    let mut kinds = [9; 4];
+    let code = &[0x74, 0x01, 0x90, 0x06];
+    let count = flow_from(
+        rt.alloc(),
+        64,
+        0,
+        code,
+        &[2],
+        &mut starts,
+        &mut leaders,
+        &mut kinds,
+    );
+    are_offsets(&rt, "the starts", &starts, &[2, 3, 0, 0]);
+    are_offsets(&rt, "the leaders", &leaders, &[2, 2, 9, 9]);
+    wrote(&rt, "the kinds", count, &kinds, 2, &[0, 0xff, 9, 9]);
+}
+
+/// `sub rsp, 0x18`, `xor eax, eax` and `ret`.
+const FUNCTION: &[u8] = b"\x48\x83\xec\x18\x31\xc0\xc3";
+
+/// That five bytes are wanted, six taken, and the jump back is behind them; that there is no slot and no relay.
+fn is_the_detour(rt: &impl Abort, made: &FlatDetour) {
+    let found = [made.taken, made.bytes, made.jump_back, made.slots_at];
+    are(rt, "the detour", &found, &[6, 11, 6, 11]);
+    let found = [made.relay_at, made.at, made.target, made.form as u64];
+    are(rt, "not there", &found, &[11, 0, 0, 1]);
+}
+
+#[test]
+fn a_detour_is_made(rt: HostRuntime) {
+    let (mut patch, mut trampoline) = ([0xaa; 7], [0xaa; 12]);
+    let mut made = NO_DETOUR;
+    let answer = make_detour(
+        rt.alloc(),
+        64,
+        0x1000,
+        FUNCTION,
+        0x2000,
+        0x3000,
+        0,
+        &mut patch,
+        &mut trampoline,
+        &mut made,
+    );
+    is_the_detour(&rt, &made);
+    let want = b"\xe9\xfb\x0f\0\0\xcc\xaa";
+    wrote(&rt, "the patch", answer, &patch, 0, want);
+    let want = b"\x48\x83\xec\x18\x31\xc0\xe9\xfb\xdf\xff\xff\xaa";
+    wrote(&rt, "the trampoline", answer, &trampoline, 0, want);
+}
+
+/// 1000: jne 1100; ret. 1100: jmp 1006.
+const BLOCK_BYTES: &[u8] = &[
+    0x0f, 0x85, 0xfa, 0, 0, 0, 0xc3, 0xcc, 0xcc, 0xe9, 1, 0xff, 0xff, 0xff,
+];
+
+/// Both move.
+const BLOCKS: &[FlatBlock] = &[
+    FlatBlock {
+        old_ip: 0x1000,
+        new_ip: 0x2000,
+        offset: 0,
+        len: 7,
+    },
+    FlatBlock {
+        old_ip: 0x1100,
+        new_ip: 0x2020,
+        offset: 9,
+        len: 5,
+    },
+];
+
+/// That a moved block ends there, with so many bytes and instructions.
+fn is_placed(rt: &impl Abort, of: &str, block: &FlatPlace, want: &[u64]) {
+    let found = [block.end, block.code_bytes, block.count];
+    are(rt, of, &found, want);
+}
+
+// What is near stays near: 2000: jne 2020; ret. 2020: jmp 2006. Of each block where it ends in the moved bytes, and its bytes and instructions.
+#[test]
+fn blocks_are_moved_at_once(rt: HostRuntime) {
+    let mut out = [0xaa; 13];
+    let (mut places, mut map) = ([NO_PLACE; 2], [NO_ENTRY; 3]);
+    let mut report = NO_BLOCKS;
+    let answer = move_blocks(
+        rt.alloc(),
+        64,
+        BLOCK_BYTES,
+        BLOCKS,
+        &mut out,
+        &mut places,
+        &mut map,
+        &mut report,
+    );
+    let found = [report.bytes, report.count, report.block];
+    gave(&rt, "the numbers", answer, &found, 0, &[12, 3, 2]);
+    let want = b"\x0f\x85\x1a\0\0\0\xc3\xe9\xe1\xff\xff\xff\xaa";
+    wrote(&rt, "the bytes", answer, &out, 0, want);
+    is_placed(&rt, "the first block", &places[0], &[7, 7, 2]);
+    is_placed(&rt, "the second block", &places[1], &[12, 5, 1]);
+}
