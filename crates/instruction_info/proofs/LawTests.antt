@@ -23,7 +23,7 @@ use Rattle.instruction_info.specs.declared.registers.RegisterUse.{RegisterUse}
 use Rattle.instruction_info.specs.Settings.{has_repeat, setting_of}
 use Rattle.instruction_info.specs.Memory.{all_memory}
 use Rattle.instruction_info.specs.Registers.{replaces, named_uses, segment_uses, implied_uses, counter_use, all_registers}
-use Rattle.instruction_info.specs.Laws.{tested_flags, is_calling, is_returning, is_system_return, is_push, is_pop, PageFlags, slots_of, are_slots, page_flags, is_arithmetic, is_increment, is_logic, is_rotate, is_shift, is_signed_shift, is_string_row, counter, added_features}
+use Rattle.instruction_info.specs.Laws.{tested_flags, is_calling, is_returning, is_system_return, is_push, is_pop, PageFlags, slots_of, are_slots, page_flags, is_arithmetic, is_increment, is_logic, is_rotate, is_shift, is_signed_shift, uses_carry, is_string_row, counter, added_features}
 
 -- ---- each effect
 
@@ -224,7 +224,8 @@ moves_if (Some count) ms = are_slots count ms
 
 abbrev has_flags : Option PageFlags → Effect → Bool
 has_flags None e = true
-has_flags (Some page) e = e.written == page.written && (e.cleared == page.cleared && (e.undefined == page.undefined && e.kept == page.kept))
+has_flags (Some page) e =
+    e.read == page.read && (e.written == page.written && (e.cleared == page.cleared && (e.undefined == page.undefined && e.kept == page.kept)))
 
 abbrev moves_slots : List ℕ → Row → Effect → Bool
 moves_slots name row e = moves_if (slots_of name) (memory_in e)
@@ -236,7 +237,7 @@ abbrev is_as_paged : List ℕ → Row → Effect → Bool
 is_as_paged name row e = moves_slots name row e && is_of_page name row e
 
 all_are_paged : all_rows is_as_paged names table indexes ≡ true
-unfolding all_rows effects indexes names table rows_in spots integer_rows integer_flat x87_rows x87_flat sse_rows sse_flat vex_rows vex_flat memory_list slots_of page_flags is_arithmetic is_increment is_logic is_rotate is_shift is_signed_shift
+unfolding all_rows effects indexes names table rows_in spots integer_rows integer_flat x87_rows x87_flat sse_rows sse_flat vex_rows vex_flat memory_list slots_of page_flags is_arithmetic is_increment is_logic is_rotate is_shift is_signed_shift uses_carry
 all_are_paged = refl
 
 -- a call or a return moves the slots of its name
@@ -253,7 +254,11 @@ last_two page e = e.undefined == page.undefined && e.kept == page.kept
 abbrev last_three : PageFlags → Effect → Bool
 last_three page e = e.cleared == page.cleared && last_two page e
 
+abbrev last_four : PageFlags → Effect → Bool
+last_four page e = e.written == page.written && last_three page e
+
 record HasFlags (page : PageFlags) (e : Effect) : Type 0 where
+  read : e.read ≡ page.read
   written : e.written ≡ page.written
   cleared : e.cleared ≡ page.cleared
   undefined : e.undefined ≡ page.undefined
@@ -265,16 +270,23 @@ flags-of_page code row page at paged =
     let name = name_of code in
     let e = effect_of code in
     let h = ap (λ o. has_flags o e) (sym paged) ∙ (and_parts (moves_slots name row e) (is_of_page name row e) (each_row is_as_paged all_are_paged code row at)).1 in
-    let h1 = (and_parts (e.written == page.written) (last_three page e) h).1 in
+    let h0 = (and_parts (e.read == page.read) (last_four page e) h).1 in
+    let h1 = (and_parts (e.written == page.written) (last_three page e) h0).1 in
     let h2 = (and_parts (e.cleared == page.cleared) (last_two page e) h1).1 in
     record {
-      written = eqb-true e.written page.written (and_parts (e.written == page.written) (last_three page e) h).0;
+      read = eqb-true e.read page.read (and_parts (e.read == page.read) (last_four page e) h).0;
+      written = eqb-true e.written page.written (and_parts (e.written == page.written) (last_three page e) h0).0;
       cleared = eqb-true e.cleared page.cleared (and_parts (e.cleared == page.cleared) (last_two page e) h1).0;
       undefined = eqb-true e.undefined page.undefined (and_parts (e.undefined == page.undefined) (e.kept == page.kept) h2).0;
       kept = eqb-true e.kept page.kept (and_parts (e.undefined == page.undefined) (e.kept == page.kept) h2).1;
     }
 
--- arithmetic writes the flags that its page says
+-- arithmetic reads the flags that its page says
+pub page-read : (code : ℕ) (row : Row) (page : PageFlags) → slice_get table code ≡ Some row → page_flags (name_of code) row ≡ Some page → flags_read code ≡ page.read
+unfolding flags_read
+page-read code row page at paged = (flags-of_page code row page at paged).read
+
+-- it writes those that its page says
 pub page-written : (code : ℕ) (row : Row) (page : PageFlags) → slice_get table code ≡ Some row → page_flags (name_of code) row ≡ Some page → flags_written code ≡ page.written
 unfolding flags_written
 page-written code row page at paged = (flags-of_page code row page at paged).written

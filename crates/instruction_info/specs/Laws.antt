@@ -125,16 +125,26 @@ are_slots count (m ∷ n ∷ ms) = false
 
 -- ---- flags of arithmetic
 
--- what a page says of the flags: those that are written, those of them that become 0, those that are undefined, and those that a count of 0 keeps
+-- what a page says of the flags: those that are read, those that are written, those of them that become 0, those that are undefined, and those that a
+-- count of 0 keeps
 pub record PageFlags : Type 0 where
+  pub read : ℕ
   pub written : ℕ
   pub cleared : ℕ
   pub undefined : ℕ
   pub kept : ℕ
 
+-- CF is added, or rotated through (ADC, RCL, RCR, SBB)
+unfoldable pub uses_carry : List ℕ → Bool
+uses_carry = is_one_of (codes "adc" ∷ codes "rcl" ∷ codes "rcr" ∷ codes "sbb" ∷ [])
+
+-- CF is read where it is added or rotated through, and else no flag
+abbrev pub carry_read : List ℕ → ℕ
+carry_read name = if uses_carry name then 0x1 else 0
+
 -- these are written and no other is changed
-abbrev pub only_written : ℕ → PageFlags
-only_written flags = record { written = flags; cleared = 0; undefined = 0; kept = 0 }
+abbrev pub only_written : List ℕ → ℕ → PageFlags
+only_written name flags = record { read = carry_read name; written = flags; cleared = 0; undefined = 0; kept = 0 }
 
 -- the second operand is the constant 1
 abbrev pub is_by_one : Row → Bool
@@ -165,22 +175,22 @@ is_shift = is_one_of (codes "shl" ∷ codes "shr" ∷ [])
 unfoldable pub is_signed_shift : List ℕ → Bool
 is_signed_shift = is_one_of (codes "sar" ∷ [])
 
-abbrev pub rotate_flags : Bool → PageFlags
-rotate_flags true = only_written 0x801
-rotate_flags false = record { written = 0x1; cleared = 0; undefined = 0x800; kept = 0x801 }
+abbrev pub rotate_flags : List ℕ → Bool → PageFlags
+rotate_flags name true = only_written name 0x801
+rotate_flags name false = record { read = carry_read name; written = 0x1; cleared = 0; undefined = 0x800; kept = 0x801 }
 
 -- of a shift by 1 that clears these
 abbrev pub shift_flags : ℕ → Bool → PageFlags
-shift_flags cleared true = record { written = 0x8C5; cleared = cleared; undefined = 0x10; kept = 0 }
-shift_flags cleared false = record { written = 0xC5; cleared = 0; undefined = 0x810; kept = 0x8D5 }
+shift_flags cleared true = record { read = 0; written = 0x8C5; cleared = cleared; undefined = 0x10; kept = 0 }
+shift_flags cleared false = record { read = 0; written = 0xC5; cleared = 0; undefined = 0x810; kept = 0x8D5 }
 
 -- what the page of a row says of the flags, where it is one of these
 unfoldable pub page_flags : List ℕ → Row → Option PageFlags
 page_flags name row =
-    if is_arithmetic name then Some (only_written 0x8D5)
-    else (if is_increment name then Some (only_written 0x8D4)
-    else (if is_logic name then Some (record { written = 0x8C5; cleared = 0x801; undefined = 0x10; kept = 0 })
-    else (if is_rotate name then Some (rotate_flags (is_by_one row))
+    if is_arithmetic name then Some (only_written name 0x8D5)
+    else (if is_increment name then Some (only_written name 0x8D4)
+    else (if is_logic name then Some (record { read = 0; written = 0x8C5; cleared = 0x801; undefined = 0x10; kept = 0 })
+    else (if is_rotate name then Some (rotate_flags name (is_by_one row))
     else (if is_shift name then Some (shift_flags 0 (is_by_one row))
     else (if is_signed_shift name then Some (shift_flags 0x800 (is_by_one row))
     else None)))))

@@ -46,9 +46,11 @@ pub fn calls_and_returns_move_their_slots()
         → IsTrue (are_slots count (implied_memory_of code)) }
 {}
 
-/// Arithmetic writes all six status flags; INC and DEC write all but CF; AND, OR, XOR and TEST clear OF and CF, write SF, ZF and PF and leave AF undefined;
+/// Arithmetic writes all six status flags, and ADC and SBB read CF; INC and DEC write all but CF; AND, OR, XOR and TEST clear OF and CF, write SF, ZF and PF and leave AF undefined;
 /// rotates write CF, and OF by 1; shifts write SF, ZF, PF and CF, and OF by 1, and leave AF undefined. A count of 0 keeps them.
 pub fn arithmetic_has_the_flags_of_its_page()
+    ensures read { (code : ℕ) (row : Row) (page : PageFlags) → slice_get table code ≡ Some row → page_flags (name_of code) row ≡ Some page
+        → flags_read code ≡ page.read }
     ensures written { (code : ℕ) (row : Row) (page : PageFlags) → slice_get table code ≡ Some row → page_flags (name_of code) row ≡ Some page
         → flags_written code ≡ page.written }
     ensures cleared { (code : ℕ) (row : Row) (page : PageFlags) → slice_get table code ≡ Some row → page_flags (name_of code) row ≡ Some page

@@ -1,5 +1,8 @@
-use Rattle.instruction_info.proofs.LawTests.{page-written, page-cleared, page-undefined, page-kept}
+use Rattle.instruction_info.proofs.LawTests.{page-read, page-written, page-cleared, page-undefined, page-kept}
 use Rattle.instruction_info.proofs.laws.arithmetic_has_the_flags_of_its_page.Goals as goal
+
+pub returns-clause-read : goal.returns-clause-read
+returns-clause-read c = page-read
 
 pub returns-clause-written : goal.returns-clause-written
 returns-clause-written c = page-written
