@@ -70,7 +70,7 @@ pub mod info {
     pub use crate::columns::{access_of_instr, flow_of_instr, memory_size_of_instr};
     pub use instruction_info::{
         AccessKind, Features, FlagSet, FlagUse, MemoryUse, RegisterUse, all_memory, all_registers,
-        features_of, flags_of, full_register, laws as effect_laws, needed_features,
+        features_of, flags_of, full_register, laws as effect_laws, needed_features, used_features,
     };
     pub use operand_info::{
         Access, Flow, RegUse, access_of, flow_of, ip_operand, laws, memory_size, near_target,
