@@ -14,5 +14,6 @@ mod style_tests;
 mod table_tests;
 mod tail_tests;
 mod text_tests;
+mod touched_tests;
 mod value_tests;
 mod word_tests;
