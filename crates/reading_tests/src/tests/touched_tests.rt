@@ -62,6 +62,19 @@ fn far_transfers_may_change_the_stack_segment(rt: HostRuntime) -> Result<(), Fai
     touches(&rt, rt.alloc(), "ff18", &[rax, rsp, called, inner])
 }
 
+/// The flags of a case: read, written, cleared, set, undefined and kept.
+fn flag_use(flags: [u32; 6]) -> FlagUse {
+    let [read_, written, cleared, set, undefined, kept] = flags;
+    FlagUse {
+        read: FlagSet(read_),
+        written: FlagSet(written),
+        cleared: FlagSet(cleared),
+        set: FlagSet(set),
+        undefined: FlagSet(undefined),
+        kept: FlagSet(kept),
+    }
+}
+
 /// The flags of a code, if the table has it.
 fn flags_if_known(code: Code) -> Option<FlagUse> {
     if code.0 < ROWS {
@@ -97,16 +110,9 @@ fn instructions_have_the_flags_of_their_pages(rt: HostRuntime) -> Result<(), Fai
         ("d1f8", [0, 0x8C5, 0x800, 0, 0x10, 0]),
         ("c1e005", [0, 0xC5, 0, 0, 0x810, 0x8D5]),
     ];
-    for (digits, [read_, written, cleared, set, undefined, kept]) in cases {
+    for (digits, flags) in cases {
         let code = read(rt.alloc(), Bits::B64, 0, digits)?.instr.code;
-        let want = FlagUse {
-            read: FlagSet(*read_),
-            written: FlagSet(*written),
-            cleared: FlagSet(*cleared),
-            set: FlagSet(*set),
-            undefined: FlagSet(*undefined),
-            kept: FlagSet(*kept),
-        };
+        let want = flag_use(*flags);
         same_value(&rt, &flags_if_known(code), &Some(want), digits);
     }
     Ok(())
