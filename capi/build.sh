@@ -4,9 +4,18 @@
 #   capi/build.sh [FOLDER] [llvm|rattle]
 #
 # FOLDER is capi/out where none is named. `llvm` (the one by default) and `rattle` are the kit's two compilers. The crates are
-# proved first, as far as no earlier check has: `rt all check --jobs 4` does that on all processors. It wants the kit's `rt`, and
-# a C compiler ($CC, else gcc) for the shared library.
+# proved first, as far as no earlier check has: `rt all check --jobs 4` does that on all processors. It wants the kit's `rt`,
+# python3, binutils, and a C compiler ($CC, else gcc) for the shared library.
+#
+# The kit's compilers write no unwind information that a running program can use: unwind.py adds it, and changes no byte of the
+# code. From the same proved crate the same bytes are built.
 set -eu
+if [ "${1:-}" = --help ]; then
+    sed -n '2,/^set/s/^# \{0,1\}//p' "$0"
+    exit 0
+fi
+# the same order of files everywhere
+export LC_ALL=C
 here=$(cd "$(dirname "$0")" && pwd)
 out=${1:-$here/out}
 backend=${2:-llvm}
@@ -29,17 +38,41 @@ case $backend in
 esac
 (cd "$here/../crates/feddurzai_c" && rt lib "$@") >"$out/build.log" 2>&1 || { tail -20 "$out/build.log" >&2; exit 1; }
 
-# one archive: the library, and the kit's way to malloc, realloc and free
+# the objects of the library, and of the kit's way to malloc, realloc and free
 work=$(mktemp -d)
 trap 'rm -rf "$work"' EXIT
-rm -f "$out/libfeddurzai.a" "$out"/libfeddurzai.so*
-cp "$here/../crates/feddurzai_c/out/libfeddurzai_c.a" "$out/libfeddurzai.a"
-(cd "$work" && ar x "$heap" && ar -q "$out/libfeddurzai.a" ./*.o && ranlib "$out/libfeddurzai.a")
+mkdir "$work/bare" "$work/whole"
+(cd "$work/bare" && ar x "$here/../crates/feddurzai_c/out/libfeddurzai_c.a" && ar x "$heap")
+# an object of the same name as another would have taken its place
+members=$(for archive in "$here/../crates/feddurzai_c/out/libfeddurzai_c.a" "$heap"; do ar t "$archive"; done | wc -l)
+if [ "$members" -lt 2 ] || [ "$(find "$work/bare" -type f | wc -l)" -ne "$members" ]; then
+    echo "build.sh: the $members objects of libfeddurzai_c.a and $heap do not have a name each" >&2
+    exit 1
+fi
 
-# the shared library shows the calls alone; its soname has the number of the interface, so that no program loads another
+# links FOLDER OUT: the shared library of the objects of a folder. It shows the calls alone; its soname has the number of the
+# interface, so that no program loads another
 interface=$(sed -n 's/^#define FEDDURZAI_INTERFACE \([0-9]*\).*/\1/p' "$here/feddurzai.h")
 printf '{ global: feddurzai_*; local: *; };\n' >"$work/calls.map"
-"$cc" -shared -o "$out/libfeddurzai.so" -Wl,--whole-archive "$out/libfeddurzai.a" -Wl,--no-whole-archive \
-    -Wl,-soname,"libfeddurzai.so.$interface" -Wl,--version-script="$work/calls.map"
+links() {
+    "$cc" -shared -o "$2" "$1"/* -Wl,-soname,"libfeddurzai.so.$interface" -Wl,--version-script="$work/calls.map"
+}
+
+# the library reads its own code, to give it unwind information
+links "$work/bare" "$work/first.so"
+for object in "$work"/bare/*; do
+    FEDDURZAI_LIBRARY=$work/first.so PYTHONDONTWRITEBYTECODE=1 \
+        python3 "$here/unwind.py" "$object" "$work/whole/${object##*/}" >>"$out/build.log" 2>"$work/unwind.log" || {
+        cat "$work/unwind.log" >&2
+        echo "build.sh: no unwind information: see $out/build.log" >&2
+        exit 1
+    }
+    # a function without it ends a backtrace: that is said, and no reason to stop
+    cat "$work/unwind.log" >&2
+done
+
+rm -f "$out/libfeddurzai.a" "$out"/libfeddurzai.so*
+(cd "$work/whole" && ar qcD "$out/libfeddurzai.a" ./* && ranlib -D "$out/libfeddurzai.a")
+links "$work/whole" "$out/libfeddurzai.so"
 ln -s libfeddurzai.so "$out/libfeddurzai.so.$interface"
 echo "$out/libfeddurzai.a $out/libfeddurzai.so ($backend)"

@@ -17,6 +17,9 @@
  * Buffers belong to the caller. A buffer is a pointer and the number of its elements: `out` and `room`, for example.
  * The library owns nothing and returns no pointers.
  *
+ * Both libraries have unwind information, also below malloc, realloc and free, so that debuggers, profilers and
+ * backtrace() find the callers. It is made after the compiler (capi/unwind.py); it is tested, not proved.
+ *
  * Threads: the library has no global state and takes no locks, so any number of threads may call it at once.
  *
  * Memory: feddurzai_move, feddurzai_move_outside, feddurzai_move_blocks, feddurzai_step, feddurzai_flow,

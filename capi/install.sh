@@ -10,10 +10,18 @@
 #   PREFIX/share/feddurzai/gdb.py       the commands for GDB
 #
 # FOLDER has the built library: capi/out where none is named, which is built first where it is not there (build.sh says what that
-# wants). It wants a C compiler ($CC, else gcc). DESTDIR may stand in front of PREFIX, as packages are made.
+# wants). It wants a C compiler ($CC, else gcc). DESTDIR may stand in front of PREFIX, as packages are made, and LIBDIR, as
+# lib/x86_64-linux-gnu, in the place of lib for the libraries and feddurzai.pc. packaging/build.sh makes packages.
 set -eu
+if [ "${1:-}" = --help ]; then
+    sed -n '2,/^set/s/^# \{0,1\}//p' "$0"
+    exit 0
+fi
 here=$(cd "$(dirname "$0")" && pwd)
-[ $# -ge 1 ] && [ $# -le 2 ] || { sed -n '2,4s/^# \{0,1\}//p' "$0" >&2; exit 1; }
+if [ $# -lt 1 ] || [ $# -gt 2 ]; then
+    sed -n '2,4s/^# \{0,1\}//p' "$0" >&2
+    exit 1
+fi
 case $1 in
     /*) prefix=${1%/} ;;
     *) prefix=$(pwd)/${1%/} ;;
@@ -42,20 +50,21 @@ read -r interface version <"$work/versions.txt"
 
 to=${DESTDIR:-}$prefix
 share=$to/share/feddurzai
+libdir=${LIBDIR:-lib}
 file=libfeddurzai.so.$interface.$version
-mkdir -p "$to/include" "$to/lib/pkgconfig" "$share/python/feddurzai"
+mkdir -p "$to/include" "$to/$libdir/pkgconfig" "$share/python/feddurzai"
 install -m 644 "$here/feddurzai.h" "$to/include/"
-install -m 644 "$from/libfeddurzai.a" "$to/lib/"
-install -m 755 "$from/libfeddurzai.so" "$to/lib/$file"
-ln -sf "$file" "$to/lib/libfeddurzai.so.$interface"
-ln -sf "libfeddurzai.so.$interface" "$to/lib/libfeddurzai.so"
+install -m 644 "$from/libfeddurzai.a" "$to/$libdir/"
+install -m 755 "$from/libfeddurzai.so" "$to/$libdir/$file"
+ln -sf "$file" "$to/$libdir/libfeddurzai.so.$interface"
+ln -sf "libfeddurzai.so.$interface" "$to/$libdir/libfeddurzai.so"
 install -m 644 "$here/gdb.py" "$share/"
 install -m 644 "$here/python/pyproject.toml" "$here/python/backend.py" "$share/python/"
 install -m 644 "$here"/python/feddurzai/*.py "$here/python/feddurzai/py.typed" "$share/python/feddurzai/"
-cat >"$to/lib/pkgconfig/feddurzai.pc" <<END_OF_PC
+cat >"$to/$libdir/pkgconfig/feddurzai.pc" <<END_OF_PC
 prefix=$prefix
 includedir=\${prefix}/include
-libdir=\${prefix}/lib
+libdir=\${prefix}/$libdir
 
 Name: feddurzai
 Description: x86 instructions read, written, told and moved

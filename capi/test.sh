@@ -1,14 +1,19 @@
 #!/bin/sh
 # Builds the library for C by both compilers of the kit, and tries it: the header, the structs, every function with what is and what
 # is no value of its arguments, with NULL, zeros and every room that is too small, the examples, the Python package, the commands of
-# GDB, the inspector, the listing of a real file against the program's, and clients of what install.sh installs.
+# GDB, the inspector, walks of the stack, the listing of a real file against the program's, clients of what install.sh installs, and
+# the packages of packaging/build.sh as far as that needs no root (packaging/test.sh installs them).
 #
 #   capi/test.sh [FILE]
 #
 # FILE is raw 64-bit code; where none is named it is the .text of gdb, of python3 or of the C library, the first that is there and
-# that objcopy takes. It wants the kit's `rt`, gcc with g++, and python3; objcopy, gdb, pkg-config, pip, mypy, pyelftools and Graphviz
-# where they are there. It says what it ran.
+# that objcopy takes. It wants the kit's `rt`, gcc with g++, binutils and python3; gdb, pkg-config, pip, mypy, pyelftools, Graphviz and
+# dpkg-dev where they are there. It says what it ran.
 set -eu
+if [ "${1:-}" = --help ]; then
+    sed -n '2,/^set/s/^# \{0,1\}//p' "$0"
+    exit 0
+fi
 here=$(cd "$(dirname "$0")" && pwd)
 top=$(dirname "$here")
 work=$(mktemp -d)
@@ -33,6 +38,10 @@ if command -v g++ >/dev/null; then
     g++ -x c++ -std=c++11 $warn -I"$here" -c "$work/header.c" -o "$work/header.o"
     say "header: C++11, no warning"
 fi
+sed -n 's/^ \*     //p' "$here/feddurzai.h" | sed 's/^ *//' | while IFS= read -r line; do
+    grep -qF -- "$line" "$here/tests/header_examples.c" || die "feddurzai.h has an example that tests/header_examples.c lacks: $line"
+done
+say "header: each line of its examples is in tests/header_examples.c"
 
 # ---- code to list
 file=${1:-}
@@ -135,7 +144,7 @@ tries_gdb() {
     # errors in words
     in_gdb '^nowhere: No symbol "nowhere" in current context' 'feddurzai-list nowhere 20'
     in_gdb '^usage: feddurzai-list' 'feddurzai-list main 20 30'
-    in_gdb '^/x is no count of instructions' 'feddurzai-list /x main'
+    in_gdb '^/x is not a count of instructions' 'feddurzai-list /x main'
     in_gdb '^1048577 bytes are more than 1048576' 'feddurzai-list main 1048577'
     wrong_bits='python
 try:
@@ -218,6 +227,10 @@ for backend in llvm rattle; do
     "$out/calls" >"$work/calls.log" || die_with "$work/calls.log" "$backend: a call answered otherwise"
     say "$backend: $(cat "$work/calls.log") ($sanitizers)"
 
+    gcc -std=c99 $sanitized $warn -I"$here" "$here/tests/header_examples.c" "$out/libfeddurzai.a" -o "$out/header_examples"
+    "$out/header_examples" >"$work/examples.log" || die_with "$work/examples.log" "$backend: an example of feddurzai.h differs"
+    say "$backend: $(tail -1 "$work/examples.log")"
+
     # the functions of the header that look for NULL are compiled with the caller: as C and as C++
     tries_nulls gcc -std=c99
     if command -v g++ >/dev/null; then
@@ -242,6 +255,11 @@ for backend in llvm rattle; do
     gcc -std=gnu99 -O2 $warn -I"$here" "$here/examples/step.c" "$out/libfeddurzai.a" -o "$out/step"
     "$out/step" >"$work/step.log" || die_with "$work/step.log" "$backend: an instruction was not stepped as it runs"
     say "$backend: examples/step.c: $(tail -1 "$work/step.log")"
+
+    # at each instruction that runs, the stack is walked to main by the unwind information that build.sh adds
+    gcc -std=gnu99 -O1 $warn -I"$here" "$here/tests/unwind.c" "$out/libfeddurzai.so" -Wl,-rpath,"$out" -o "$out/unwind"
+    "$out/unwind" >"$work/unwind.log" || die_with "$work/unwind.log" "$backend: unwind information"
+    say "$backend: $(cat "$work/unwind.log")"
 
     export FEDDURZAI_LIBRARY="$out/libfeddurzai.so"
     python3 "$here/examples/disassemble.py" "$front" 64 401000 intel >"$work/python.intel"
@@ -307,5 +325,51 @@ if command -v mypy >/dev/null; then
     say "installed: the package's type hints: $(cat "$work/mypy.log")"
 else
     say "installed: no mypy here, the type hints are not checked"
+fi
+
+# ---- packages, as far as they are tried without root
+backend=packages
+packages() {
+    FEDDURZAI_COMMIT=HEAD FEDDURZAI_PROGRAM=$(dirname "$program") FEDDURZAI_LIBRARIES=$work/llvm "$top/packaging/build.sh" "$1" >"$work/packages.log" 2>&1 \
+        || die_with "$work/packages.log" "packages: packaging/build.sh"
+}
+if ! command -v dpkg-shlibdeps >/dev/null; then
+    say "packages: no dpkg-dev here, none are made"
+elif ! git -C "$top" diff --quiet HEAD -- crates crates.txt capi packaging 2>/dev/null; then
+    say "packages: this is no clone, or has changes that are not committed, so none are made: they say of which commit they are"
+else
+    packages "$work/packages"
+    grep -Ev '^[0-9a-f]{64} |^/' "$work/packages.log" | sed 's/^/packages: /'
+    # the same bytes, at another time, by another umask and in another time zone
+    (umask 077 && TZ=Asia/Tokyo packages "$work/packages again")
+    diff -r "$work/packages" "$work/packages again" >"$work/packages.log" || die_with "$work/packages.log" "packages: two builds of one commit differ"
+    say "packages: $(wc -l <"$work/packages/SHA256SUMS") files, the same bytes by two builds"
+
+    unpacked=$work/unpacked
+    for package in "$work"/packages/*.deb; do dpkg-deb -x "$package" "$unpacked"; done
+    "$unpacked/usr/bin/feddurzai" list 64 401000 intel <"$file" | cmp - "$work/program.intel" || die "packages: the program lists otherwise"
+    LD_LIBRARY_PATH=$unpacked/usr/lib/x86_64-linux-gnu PYTHONPATH=$unpacked/usr/lib/python3/dist-packages \
+        python3 "$here/tests/calls.py" >"$work/python.log" 2>&1 || die_with "$work/python.log" "packages: python3-feddurzai"
+    gcc -std=gnu99 -O1 $warn -I"$unpacked/usr/include" "$here/tests/unwind.c" -L"$unpacked/usr/lib/x86_64-linux-gnu" -lfeddurzai -o "$work/unwind"
+    LD_LIBRARY_PATH=$unpacked/usr/lib/x86_64-linux-gnu "$work/unwind" >"$work/unwind.log" || die_with "$work/unwind.log" "packages: unwind information"
+    say "packages: what is in those for Debian lists as the program does; $(cat "$work/python.log"); $(cat "$work/unwind.log")"
+
+    mkdir "$work/folder"
+    tar -xzf "$work"/packages/*.tar.gz -C "$work/folder" --strip-components=1
+    if command -v pkg-config >/dev/null; then
+        export PKG_CONFIG_PATH="$work/folder/lib/pkgconfig"
+        gcc -std=c99 -O2 $warn $(pkg-config --cflags feddurzai) "$here/examples/disassemble.c" $(pkg-config --libs feddurzai) -o "$work/in_folder"
+        LD_LIBRARY_PATH=$work/folder/lib "$work/in_folder" "$file" 64 401000 intel | cmp - "$work/program.intel" || die "packages: a client of the folder lists otherwise"
+    fi
+    PYTHONPATH=$work/folder/share/feddurzai/python python3 "$here/tests/client.py" "$work/folder" || die "packages: the folder's Python package"
+    say "packages: the folder of the .tar.gz has clients in C and Python"
+    if python3 -m venv "$work/venv of the wheel" 2>/dev/null && [ -x "$work/venv of the wheel/bin/pip" ]; then
+        "$work/venv of the wheel/bin/python" -m pip --quiet --no-input --disable-pip-version-check install --no-index "$work"/packages/*.whl >"$work/pip.log" 2>&1 \
+            || die_with "$work/pip.log" "packages: pip does not take the wheel"
+        "$work/venv of the wheel/bin/python" "$here/tests/calls.py" >"$work/python.log" 2>&1 || die_with "$work/python.log" "packages: the wheel"
+        say "packages: pip takes the wheel with no network; $(cat "$work/python.log")"
+    else
+        say "packages: no venv with pip here, the wheel is not tried"
+    fi
 fi
 say "all passed"

@@ -2,6 +2,10 @@
 
 The version is the library's. The library is the one that the package would load: capi/out of the clone, the prefix of install.sh, or the
 environment's FEDDURZAI_LIBRARY.
+
+Two settings are for who makes packages (packaging/build.sh): `platform`, the platform tags of the wheel with dots between them, where they are not
+those of this machine; and `notes`, a folder whose files go beside the wheel's metadata. With the environment's SOURCE_DATE_EPOCH, the time of
+all files in the wheel, the same files make the same bytes.
 """
 
 import base64
@@ -9,6 +13,7 @@ import hashlib
 import os
 import sys
 import sysconfig
+import time
 import zipfile
 
 HERE = os.path.dirname(os.path.abspath(__file__))
@@ -37,29 +42,41 @@ def _metadata(version):
     return f"Metadata-Version: 2.1\nName: feddurzai\nVersion: {version}\nSummary: x86 instructions read, written, told and moved\nRequires-Python: >=3.8\n"
 
 
+def _put(archive, name, content):
+    """Puts a file into a wheel; a library may be run, as pip itself leaves it."""
+    epoch = os.environ.get("SOURCE_DATE_EPOCH")
+    entry = zipfile.ZipInfo(name, time.gmtime(int(epoch))[:6] if epoch else time.localtime()[:6])
+    entry.compress_type = zipfile.ZIP_DEFLATED
+    entry.create_system = 3
+    entry.external_attr = (0o100755 if ".so." in name else 0o100644) << 16
+    archive.writestr(entry, content)
+
+
 def _wheel(directory, files, tag):
     """Writes a wheel of some files by their names in it, and tells its name."""
     feddurzai, _ = _package()
     version = ".".join(map(str, feddurzai.version()))
     info = f"feddurzai-{version}.dist-info"
+    start, _, platforms = tag.rpartition("-")
+    tags = "".join(f"Tag: {start}-{it}\n" for it in platforms.split("."))
     files = {
-        **files,
+        **{name.replace("INFO/", f"{info}/"): content for name, content in files.items()},
         f"{info}/METADATA": _metadata(version).encode(),
-        f"{info}/WHEEL": f"Wheel-Version: 1.0\nGenerator: feddurzai\nRoot-Is-Purelib: false\nTag: {tag}\n".encode(),
+        f"{info}/WHEEL": f"Wheel-Version: 1.0\nGenerator: feddurzai\nRoot-Is-Purelib: false\n{tags}".encode(),
     }
     record = ""
     wheel = f"feddurzai-{version}-{tag}.whl"
     with zipfile.ZipFile(os.path.join(directory, wheel), "w", zipfile.ZIP_DEFLATED) as archive:
         for name, content in files.items():
-            archive.writestr(name, content)
+            _put(archive, name, content)
             digest = base64.urlsafe_b64encode(hashlib.sha256(content).digest()).rstrip(b"=").decode()
             record += f"{name},sha256={digest},{len(content)}\n"
-        archive.writestr(f"{info}/RECORD", record + f"{info}/RECORD,,\n")
+        _put(archive, f"{info}/RECORD", record + f"{info}/RECORD,,\n")
     return wheel
 
 
-def _tag():
-    return "py3-none-" + sysconfig.get_platform().replace("-", "_").replace(".", "_")
+def _tag(platforms=None):
+    return "py3-none-" + (platforms or sysconfig.get_platform().replace("-", "_").replace(".", "_"))
 
 
 def get_requires_for_build_wheel(config_settings=None):
@@ -68,7 +85,7 @@ def get_requires_for_build_wheel(config_settings=None):
 
 def build_wheel(wheel_directory, config_settings=None, metadata_directory=None):
     _, native = _package()
-    files = {}
+    settings, files = config_settings or {}, {}
     folder = os.path.join(HERE, "feddurzai")
     for name in sorted(os.listdir(folder)):
         if name.endswith(".py") or name == "py.typed":
@@ -76,7 +93,11 @@ def build_wheel(wheel_directory, config_settings=None, metadata_directory=None):
                 files[f"feddurzai/{name}"] = source.read()
     with open(_library(native), "rb") as source:
         files[f"feddurzai/{native.SONAME}"] = source.read()
-    return _wheel(wheel_directory, files, _tag())
+    notes = settings.get("notes")
+    for name in sorted(os.listdir(notes)) if notes else []:
+        with open(os.path.join(notes, name), "rb") as source:
+            files[f"INFO/{name}"] = source.read()
+    return _wheel(wheel_directory, files, _tag(settings.get("platform")))
 
 
 def get_requires_for_build_editable(config_settings=None):

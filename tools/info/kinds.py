@@ -7,6 +7,7 @@ INTERRUPTS = {'int', 'int1', 'int3', 'into', 'syscall'}
 FAR = {'callf', 'jmpf', 'retf', 'iret', 'iretd', 'iretq', 'sysenter', 'sysexit'}
 PRIVILEGE = {'IOPL', 'VM', 'VIP', 'VIF'}
 STATE = re.compile(r'^(fnsave|frstor|fxsave|fxrstor|xsave|xrstor|vzero)')
+OPTIONAL = re.compile(r'^(prefetch|rdssp|endbr)')
 HINTS = re.compile(r'^(invlpg|prefetch\w+|nop|clflush|clflushopt|ud1)$')
 MASKED = re.compile(r'^v?maskmov|^vpmaskmov|gather')
 BASES = {'swapgs', 'rdfsbase', 'rdgsbase', 'wrfsbase', 'wrgsbase', 'clts', 'lmsw'}
@@ -67,6 +68,7 @@ KINDS = [
     ('XLAT: AL is the index', lambda row, aspect, ours, theirs: row.name == 'xlat'),
     ('FTST and FXAM only read', lambda row, aspect, ours, theirs: row.name in ('ftst', 'fxam') and aspect.startswith('register')),
     ('registers of states that are saved, restored or zeroed', lambda row, aspect, ours, theirs: STATE.match(row.name) and aspect.startswith('register') and theirs == '-'),
+    ('a saved state has the x87 status word', lambda row, aspect, ours, theirs: STATE.match(row.name) and aspect in ('flags read', 'flags written') and theirs == '-'),
     ('the size of XSAVE\'s area is not known', lambda row, aspect, ours, theirs: row.name.startswith(('xsave', 'xrstor')) and aspect.startswith('bytes') and ours == '0'),
     ('hints touch nothing', lambda row, aspect, ours, theirs: HINTS.match(row.name) and (aspect == 'memory' or aspect.startswith('register')) and ours in ('-', '[]')),
     ('MONITOR reads a byte', lambda row, aspect, ours, theirs: row.name == 'monitor' and aspect == 'memory'),
@@ -76,5 +78,6 @@ KINDS = [
     ('CPUID and CMPXCHG8B read ECX or EBX conditionally', lambda row, aspect, ours, theirs: row.name in ('cpuid', 'cmpxchg8b', 'cmpxchg16b') and aspect.startswith('register')),
     ('LSL of 64 bits names its register by 64 bits', lambda row, aspect, ours, theirs: row.name == 'lsl' and aspect.startswith('register')),
     ('MOVSXD of 16 bits reads 2 bytes', lambda row, aspect, ours, theirs: row.name == 'movsxd' and aspect.startswith('bytes')),
+    ('a hint needs no feature', lambda row, aspect, ours, theirs: aspect == 'features' and ours == '-' and OPTIONAL.match(row.name)),
     ('features are CPUID flags, not sets of instructions', lambda row, aspect, ours, theirs: aspect == 'features'),
 ]

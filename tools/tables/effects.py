@@ -194,14 +194,15 @@ def feature_bits(word, where):
 
 
 def feature_sets(line):
-    """The features of a line, and those of the form without memory, which a second word may name."""
-    first, *rest = line.words
-    needed = feature_bits(first, line.where)
+    """The features of a line, and those of the form without memory, which a second word may name. The word `nop` says that a processor without them
+    executes a NOP: the program row_entries compares it with the library."""
+    first, *rest = [word for word in line.words if word != 'nop']
+    used = feature_bits(first, line.where)
     if not rest:
-        return needed, needed
+        return used, used
     if len(rest) > 1 or not rest[0].startswith('register='):
         raise BadEntry(f'{line.where}: not features, or features and register=')
-    return needed, feature_bits(rest[0][len('register='):], line.where)
+    return used, feature_bits(rest[0][len('register='):], line.where)
 
 
 def effect_of(line, features, row):
@@ -231,8 +232,8 @@ def effect_of(line, features, row):
         except (KeyError, ValueError, TypeError):
             raise BadEntry(f'{line.where}: no effect: {word}')
     sets['written'] |= sets['cleared'] | sets['set']
-    needed, of_register = feature_sets(features)
-    return Effect(tuple(sets[name] for name in FLAG_SETS), tuple(implied), tuple(mems), repeat, size, named, needed, of_register)
+    used, of_register = feature_sets(features)
+    return Effect(tuple(sets[name] for name in FLAG_SETS), tuple(implied), tuple(mems), repeat, size, named, used, of_register)
 
 
 def effects_of(table):

@@ -1,5 +1,5 @@
 -- Moved items go to their goals.
-use Rattle.std.proofs.Common.{◌<◌, List, length, Result, Ok, Err, arith}
+use Rattle.std.proofs.Common.{List, Result, Ok, Err, arith}
 use Rattle.x86_values.specs.declared.Bits.{Bits}
 use Rattle.branch_sizes.specs.declared.plan.BlockSpan.{BlockSpan}
 use Rattle.branch_sizes.specs.Layout.{block_number}

@@ -9,10 +9,12 @@ use Rattle.move_goals.specs.Plan.{plan_for, plan_with}
 use Rattle.block_encoder.specs.Moved.{MovedLists, IsMoved}
 use Rattle.c_calls.specs.Blocks.{place_at, places}
 
+-- no places are those of no blocks
 pub places-none : (bits : Bits) (spans : List BlockSpan) (items : List Placed) (m : MovedLists) → places bits spans items m 0 ≡ []
 unfolding places
 places-none bits spans items m = refl
 
+-- a further block adds its place
 pub places-more : (bits : Bits) (spans : List BlockSpan) (items : List Placed) (m : MovedLists) (k : ℕ) →
     places bits spans items m (k + 1) ≡ places bits spans items m k ++ place_at bits spans items m k ∷ []
 unfolding places

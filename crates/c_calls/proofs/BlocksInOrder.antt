@@ -19,6 +19,7 @@ use Rattle.c_calls.proofs.ItemsInOrder.{are_placed, follows}
 
 -- ---- one more block
 
+-- a further block adds its instructions and its span
 pub one_more_block : (bits : Bits) (bytes : List ℕ) (blocks : List FlatBlock) (spans : List BlockSpan) (items : List Placed) (block : FlatBlock) (front : List Placed) →
     AreBlocksRead bits bytes blocks spans items → IsBlockRead bits bytes block front →
     AreBlocksRead bits bytes (blocks ++ block ∷ []) (spans ++ block_span block front ∷ []) (items ++ front)
@@ -79,6 +80,7 @@ counted bits bytes (c ∷ cs) spans items (first, rest, others, items_are, spans
     ∙ (ap (λ (n : ℕ). length first + n) (counted bits bytes cs others rest more)
     ∙ (sym (length-append first rest) ∙ sym (ap length items_are))))
 
+-- the spans of blocks that were read are those of their instructions
 pub spans_of_read : (bits : Bits) (bytes : List ℕ) (blocks : List FlatBlock) (spans : List BlockSpan) (items : List Placed) → AreBlocksRead bits bytes blocks spans items →
     length blocks ≤ 65536 → AreSpansOf items spans
 spans_of_read bits bytes blocks spans items h few = record {
@@ -96,6 +98,7 @@ placed_in bits first rest a b k lt =
       | inr ge ↦ subst P (sym (get_or-append_right first rest k no_item ge)) (b (k - length first) (omega (arith, length-append first rest)))
     ]
 
+-- instructions of blocks that were read are well placed
 pub placed_of_read : (bits : Bits) (bytes : List ℕ) (blocks : List FlatBlock) (spans : List BlockSpan) (items : List Placed) → AreBlocksRead bits bytes blocks spans items →
     ArePlaced bits items
 placed_of_read bits bytes [] spans items h =
@@ -199,6 +202,7 @@ in_order_of_read bits bytes (c ∷ cs) spans items (first, rest, others, items_a
     let chain = follows bits c.old_ip (block_code bytes c) first is.read.0 [] is.read.1 in
     subst P (sym items_are) (subst Q (sym spans_are) (joined_order (block_span c first) others first rest refl chain (in_order_of_read bits bytes cs others rest more)))
 
+-- and in order
 pub no_disorder_of_read : (bits : Bits) (bytes : List ℕ) (blocks : List FlatBlock) (spans : List BlockSpan) (items : List Placed) → AreBlocksRead bits bytes blocks spans items →
     first_disorder spans items ≡ None
 unfolding first_disorder

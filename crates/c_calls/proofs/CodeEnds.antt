@@ -12,6 +12,7 @@ width-most B16 = omega arith
 width-most B32 = omega arith
 width-most B64 = omega arith
 
+-- code whose end does not pass the address space ends inside it
 pub ends-inside : (bits : Bits) (old : ℕ) (bytes : List ℕ) (new : ℕ) → old < 2 ^ 64 → passes bits (moved_end old bytes new) ≡ false → old + length bytes ≤ 2 ^ 64
 ends-inside bits old bytes new low inside =
     elim (cases_Bool (nat_eq (length bytes) 0)) [

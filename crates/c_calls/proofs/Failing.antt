@@ -282,6 +282,7 @@ at-none why p h = four (p 0) (p 1) (p 2) (p 3) h
     four true false c d h = cc
     four false b c d h = cc
 
+-- the operand that is reported is the first that fails the condition
 pub failing-is : (bits : Bits) (ip : ℕ) (row : Row) (i : Instr) (w : NoSpelling) → has_one_target row ≡ true → failure bits ip row i ≡ Some w
     → IsFailing bits ip row i w
 unfolding failure first_failed_condition

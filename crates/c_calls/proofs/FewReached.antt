@@ -36,16 +36,19 @@ few xs most up below (suc n) e =
     let inside = below n (omega (arith, e)) in
     omega (arith, far, inside)
 
+-- a graph has no more starts than the code has bytes
 pub few_reached : (mode : Option Bits) (base : ℕ) (bytes : List ℕ) (graph : Graph) → IsGraphIn mode base bytes graph → length graph.starts ≤ length bytes
 few_reached None base bytes graph h = absurd h
 few_reached (Some bits) base bytes graph h =
     few graph.starts (length bytes) h.ascending
     (λ k l. reached_inside (code_bytes bits base bytes) (slice_index graph.starts k) (h.reached k 0 l)) (length graph.starts) refl
 
+-- it has a leader for each start
 pub as_many_leaders : (mode : Option Bits) (base : ℕ) (bytes : List ℕ) (graph : Graph) → IsGraphIn mode base bytes graph → length graph.leaders ≡ length graph.starts
 as_many_leaders None base bytes graph h = absurd h
 as_many_leaders (Some bits) base bytes graph h = h.len
 
+-- a graph from several entries has no more starts than the code has bytes
 pub few_reached_from : (mode : Option Bits) (base : ℕ) (bytes entries : List ℕ) (graph : Graph) → IsGraphFromIn mode base bytes entries graph →
     length graph.starts ≤ length bytes
 few_reached_from None base bytes entries graph h = absurd h
@@ -53,11 +56,13 @@ few_reached_from (Some bits) base bytes entries graph h =
     few graph.starts (length bytes) h.ascending
     (λ k l. reached_from_inside (code_bytes bits base bytes) entries (slice_index graph.starts k) (h.reached k 0 l)) (length graph.starts) refl
 
+-- it has a leader for each start
 pub leaders_from : (mode : Option Bits) (base : ℕ) (bytes entries : List ℕ) (graph : Graph) → IsGraphFromIn mode base bytes entries graph →
     length graph.leaders ≡ length graph.starts
 leaders_from None base bytes entries graph h = absurd h
 leaders_from (Some bits) base bytes entries graph h = h.len
 
+-- and a flow
 pub flows_from : (mode : Option Bits) (base : ℕ) (bytes entries : List ℕ) (graph : Graph) → IsGraphFromIn mode base bytes entries graph →
     length graph.flows ≡ length graph.starts
 flows_from None base bytes entries graph h = absurd h

@@ -34,6 +34,7 @@ few_at : (i : Instr) (n : ℕ) → length (uses_at i n) ≤ 2
 unfolding uses_at
 few_at i n = few_of (operand_at i n) (access_of i.code.0 n)
 
+-- the operands of an instruction name at most 8 registers
 pub few_uses : (i : Instr) → length (uses i) ≤ 8
 unfolding uses
 few_uses i =

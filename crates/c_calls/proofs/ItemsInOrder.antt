@@ -18,6 +18,7 @@ use Rattle.c_calls.specs.Moving.{decoded_item, AreReadUpTo}
 
 -- ---- one more instruction
 
+-- a further instruction extends what was read
 pub one_more : (bits : Bits) (ip : ℕ) (bytes : List ℕ) (items : List Placed) (ip' : ℕ) (rest : List ℕ) (p : Placed) →
     AreReadUpTo bits ip bytes items ip' rest → p.ip ≡ ip' → 1 ≤ p.len → p.len ≤ 15 → IsRead bits ip' rest (Read (decoded_item p)) →
     AreReadUpTo bits ip bytes (items ++ p ∷ []) (ip' + p.len) (drop p.len rest)
@@ -33,6 +34,7 @@ pub record ReadSoFar (bits : Bits) (base : ℕ) (bytes : List ℕ) (at : ℕ) (i
   pub reads : AreReadUpTo bits base bytes items (base + at) (drop at bytes)
   pub within : at ≤ length bytes
 
+-- at the start nothing is read
 pub so_far-start : (bits : Bits) (base : ℕ) (bytes : List ℕ) (items : List Placed) → items ≡ [] → ReadSoFar bits base bytes 0 items
 so_far-start bits base bytes items none =
     let R : List Placed → Type 0 = λ xs. AreReadUpTo bits base bytes xs (base + 0) (drop 0 bytes) in
@@ -41,6 +43,7 @@ so_far-start bits base bytes items none =
       within = omega arith;
     }
 
+-- an instruction that is read is kept
 pub so_far-step : (bits : Bits) (base : ℕ) (bytes : List ℕ) (at : ℕ) (items items' : List Placed) (d : Decoded) (p : Placed) → ReadSoFar bits base bytes at items →
     items' ≡ items ++ p ∷ [] → p ≡ record { ip = base + at; len = d.len; instr = d.instr } → 0 < d.len → d.len ≤ 15 → d.len ≤ length (drop at bytes) →
     IsRead bits (base + at) (drop at bytes) (Read d) → ReadSoFar bits base bytes (at + d.len) items'
@@ -60,6 +63,7 @@ so_far-step bits base bytes at items items' d p far e is some few within reads =
 
 -- ---- each is well placed
 
+-- instructions that were read are well placed
 pub are_placed : (bits : Bits) (ip : ℕ) (bytes : List ℕ) (items : List Placed) (ip' : ℕ) (rest : List ℕ) → AreReadUpTo bits ip bytes items ip' rest → ArePlaced bits items
 are_placed bits ip bytes [] ip' rest h k lt = absurd (omega arith)
 are_placed bits ip bytes (p ∷ ps) ip' rest h zero lt =
@@ -74,6 +78,7 @@ are_placed bits ip bytes (p ∷ ps) ip' rest h (suc k) lt = are_placed bits (ip 
 
 -- ---- and in order
 
+-- each begins where the one before it ends
 pub follows : (bits : Bits) (ip : ℕ) (bytes : List ℕ) (items : List Placed) (ip' : ℕ) (rest : List ℕ) → AreReadUpTo bits ip bytes items ip' rest →
     (j : ℕ) → suc j < length items → (item_at items (suc j)).ip ≡ old_end (item_at items j)
 follows bits ip bytes [] ip' rest h j lt = absurd (omega arith)
@@ -94,6 +99,7 @@ in_order spans items chain (suc j) lt =
     ((item_at items (suc j)).ip == old_end (item_at items (suc j - 1)))
     (eq-eqb _ _ (chain j lt ∙ ap (λ (i : ℕ). old_end (item_at items i)) (sym before)))
 
+-- so they are in order
 pub no_disorder : (bits : Bits) (ip : ℕ) (bytes : List ℕ) (items : List Placed) (ip' : ℕ) (rest : List ℕ) → AreReadUpTo bits ip bytes items ip' rest →
     (new : ℕ) → first_disorder (one_span items new) items ≡ None
 unfolding first_disorder

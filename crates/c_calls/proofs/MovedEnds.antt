@@ -21,16 +21,19 @@ use Rattle.c_calls.proofs.CodeLengths.{code-ends}
 one_of : (items : List Placed) (new : ℕ) → AreSpansOf items (one_span items new)
 one_of items new = record { few = omega arith; counts = omega arith }
 
+-- moved code whose targets follow ends where its images and slots do
 pub follow-ends : FragmentFacts → (bits : Bits) (items : List Placed) (new : ℕ) (m : MovedCode) → (moved : AreMoved Follow bits items new m) →
     m.code_len ≡ (images_end (plan_for bits (one_span items new) items) moved.moved.layout 0 - new) % 2 ^ 64
 follow-ends fragments bits items new m moved =
     moved.end ∙ code-ends fragments bits items (one_span items new) (goal_at (one_span items new) items) (one_of items new) moved.moved.layout moved.moved.least.closed.is_layout m.moved moved.moved.lists 0 (omega arith)
 
+-- so does moved code whose targets stay
 pub stay-ends : FragmentFacts → (bits : Bits) (items : List Placed) (new : ℕ) (m : MovedCode) → (moved : AreMoved Stay bits items new m) →
     m.code_len ≡ (images_end (plan_outside bits items new) moved.moved.1.layout 0 - new) % 2 ^ 64
 stay-ends fragments bits items new m moved =
     moved.end ∙ code-ends fragments bits items (one_span items new) (kept_goals items) (one_of items new) moved.moved.1.layout moved.moved.1.least.closed.is_layout m.moved moved.moved.1.lists 0 (omega arith)
 
+-- so does each moved block
 pub blocks-end : FragmentFacts → (bits : Bits) (spans : List BlockSpan) (items : List Placed) (m : CodeBlocks) → AreSpansOf items spans → (moved : AreBlocksMoved bits spans items m) →
     (b : ℕ) → b < length spans → (get_or m.places.items b no_place).code_bytes ≡ (images_end (plan_for bits spans items) moved.moved.layout b - (span_at spans b).new_base) % 2 ^ 64
 unfolding places place_at

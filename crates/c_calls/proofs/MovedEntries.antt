@@ -13,10 +13,12 @@ use Rattle.c_calls.specs.declared.moved.Targets.{Targets}
 use Rattle.c_calls.specs.declared.moved.Targets.TheVariants.{Follow, Stay}
 use Rattle.c_calls.specs.Moving.{entry_at, entries, IsRelocated}
 
+-- no entries are those of no instructions
 pub entries-none : (items : List Placed) (starts : List ℕ) (forms : List Form) → entries items starts forms 0 ≡ []
 unfolding entries
 entries-none items starts forms = refl
 
+-- a further instruction adds its entry
 pub entries-more : (items : List Placed) (starts : List ℕ) (forms : List Form) (k : ℕ) →
     entries items starts forms (k + 1) ≡ entries items starts forms k ++ entry_at items starts forms k ∷ []
 unfolding entries
@@ -30,10 +32,12 @@ lists_of : (targets : Targets) (bits : Bits) (items : List Placed) (new : ℕ) (
 lists_of Follow bits items new m h = (plan_for bits (one_span items new) items, h.layout, h.lists)
 lists_of Stay bits items new m h = (plan_outside bits items new, h.1.layout, h.1.lists)
 
+-- there is a new place for each instruction
 pub starts_length : (targets : Targets) (bits : Bits) (items : List Placed) (new : ℕ) (m : MovedLists) → IsRelocated targets bits items new (Ok m) →
     length m.starts ≡ length items
 starts_length targets bits items new m h = ap length (lists_of targets bits items new m h).2.starts ∙ length-map-range_with_len _ 0 (length items)
 
+-- and a form
 pub forms_length : (targets : Targets) (bits : Bits) (items : List Placed) (new : ℕ) (m : MovedLists) → IsRelocated targets bits items new (Ok m) →
     length m.forms ≡ length items
 forms_length targets bits items new m h = ap length (lists_of targets bits items new m h).2.forms ∙ length-map-range_with_len _ 0 (length items)

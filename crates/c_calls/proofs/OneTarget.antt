@@ -33,6 +33,7 @@ refused-by : (o : Option NoSpelling) (bytes : List ℕ) (w : NoSpelling) → enc
 refused-by None bytes w h = cc
 refused-by (Some x) bytes w h = cc
 
+-- the reported operand of a refused instruction fails the reported condition
 pub told-fails : (bits : Bits) (ip : ℕ) (row : Row) (i : Instr) (w : NoSpelling) → slice_get table i.code.0 ≡ Some row → encoding bits ip i ≡ Err w
     → IsFailing bits (modulo_width bits ip) row i w
 told-fails bits ip row i w at h =

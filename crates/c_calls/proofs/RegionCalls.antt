@@ -27,6 +27,7 @@ opened_end : (base size room : ℕ) → is_none (open_refusal base size room) �
 unfolding open_refusal
 opened_end base size room h = grind arith
 
+-- a list that passes the test is a region
 pub region_is : (region : FlatRegion) (blocks : List FlatLive) → is_region region blocks ≡ true → IsRegion region blocks
 unfolding is_region
 region_is region blocks h =
@@ -169,6 +170,7 @@ placed_by : (region : FlatRegion) (blocks : List FlatLive) (len place : ℕ) →
 unfolding after_place
 placed_by region blocks len place answer = ap (λ (a : Result ℕ PlaceError). placed_as a (region_of region blocks) len) answer
 
+-- a block that is placed is put in at its place
 pub placed-in : (region : FlatRegion) (blocks blocks' : List FlatLive) (len index place : ℕ) (said : ℤ) → IsRegion region blocks → (len ≡ 0 → ⊥) → region.count < length blocks →
     IsNewPlace region.base (region.base + region.size) (len_in_units len) (live_of region blocks) index place → said ≡ pos 0 →
     (block : FlatLive) → block ≡ record { place = place; len = len_in_units len } →
@@ -196,6 +198,7 @@ placed-in region blocks blocks' len index place said is some few new told block 
 
 -- ---- one block less
 
+-- a place where no block starts is not released
 pub not-released : (region : FlatRegion) (blocks : List FlatLive) (place : ℕ) (said : ℤ) → IsRegion region blocks → StartsNowhere place (live_of region blocks) →
     said ≡ release_said (Err (record { place = place })) → IsReleasedIn region region blocks blocks place said
 unfolding release_answer after_release live_block
@@ -212,6 +215,7 @@ not-released region blocks place said is none told =
       };
     }
 
+-- a block that is released is taken out
 pub released-in : (region : FlatRegion) (blocks blocks' : List FlatLive) (place index : ℕ) (said : ℤ) → IsRegion region blocks → StartsAt place (live_of region blocks) index →
     said ≡ pos 0 →
     blocks' ≡ (take index (live_of region blocks) ++ drop (index + 1) (live_of region blocks)) ++ drop (region.count - 1) blocks → length blocks' ≡ length blocks →
@@ -231,6 +235,7 @@ released-in region blocks blocks' place index said is at told array same =
 
 -- ---- the bytes of a block
 
+-- a place where no block starts is not filled
 pub not-live : (region : FlatRegion) (blocks : List FlatLive) (place : ℕ) (bytes image : List ℕ) (said : ℤ) → StartsNowhere place (live_of region blocks) →
     said ≡ fill_said (Err (fill.NotLive place)) → IsFilledIn region blocks place bytes image image said
 unfolding live_block
@@ -239,6 +244,7 @@ not-live region blocks place bytes image said none told = record {
   image_is = sym (ap (λ (o : Option LiveBlock). image_left region.base image o bytes) none.none);
 }
 
+-- more bytes than a block has are refused
 pub too-long : (region : FlatRegion) (blocks : List FlatLive) (place index : ℕ) (bytes image : List ℕ) (said : ℤ) → StartsAt place (live_of region blocks) index →
     (get_or (live_of region blocks) index no_live).len < length bytes → said ≡ fill_said (Err (fill.TooLong 0)) → IsFilledIn region blocks place bytes image image said
 unfolding live_block
@@ -252,6 +258,7 @@ too-long region blocks place index bytes image said at more told =
           ∙ cond-false (nat_le (length bytes) b.len) (with_bytes_at image (b.place - region.base) (with_content bytes (live_block_of b)).content) image no);
     }
 
+-- a block that is filled holds the bytes
 pub filled-in : (region : FlatRegion) (blocks : List FlatLive) (place index : ℕ) (bytes image image' : List ℕ) (said : ℤ) → StartsAt place (live_of region blocks) index →
     length bytes ≤ (get_or (live_of region blocks) index no_live).len → said ≡ pos 0 →
     image' ≡ with_bytes_at image ((get_or (live_of region blocks) index no_live).place - region.base) (bytes ++ replicate ((get_or (live_of region blocks) index no_live).len - length bytes) int3) →

@@ -59,6 +59,7 @@ pub record SearchedTo (base limit needed : ℕ) (live : List FlatLive) (k from :
   pub gaps : gap_of base limit needed live ≡ gap_of from limit needed (drop k live)
   pub order : (b : FlatLive) → from ≤ b.place → with_block (live_block_of b) (blocks_of live) ≡ blocks_of (take k live) ++ with_block (live_block_of b) (blocks_of (drop k live))
 
+-- the search for a gap begins at the base
 pub searched-start : (base limit needed : ℕ) (live : List FlatLive) → are_laid base limit live ≡ true → SearchedTo base limit needed live 0 base
 searched-start base limit needed live h = record {
   within = omega arith;
@@ -96,6 +97,7 @@ laid_here base limit needed live k from s lt =
     let L : List FlatLive → Type 0 = λ bs. are_laid from limit bs ≡ true in
     laid_front from limit (get_or live k no_live) (drop (k + 1) live) (subst L (from_here live k lt) s.laid)
 
+-- what it has passed is laid out
 pub searched-laid : (base limit needed : ℕ) (live : List FlatLive) (k from : ℕ) → SearchedTo base limit needed live k from → k < length live →
     from ≤ (get_or live k no_live).place
 searched-laid base limit needed live k from s lt = (laid_here base limit needed live k from s lt).0
@@ -106,6 +108,7 @@ pub searched-end : (base limit needed : ℕ) (live : List FlatLive) (k from : �
 searched-end base limit needed live k from s lt =
     laid_within ((get_or live k no_live).place + (get_or live k no_live).len) limit (drop (k + 1) live) (laid_here base limit needed live k from s lt).2
 
+-- it passes a block whose gap is too small
 pub searched-step : (base limit needed : ℕ) (live : List FlatLive) (k from : ℕ) → SearchedTo base limit needed live k from → k < length live →
     (get_or live k no_live).place < from + needed → SearchedTo base limit needed live (k + 1) ((get_or live k no_live).place + (get_or live k no_live).len)
 searched-step base limit needed live k from s lt short =
@@ -124,6 +127,7 @@ searched-step base limit needed live k from s lt short =
           ∙ ap (λ (xs : List LiveBlock). xs ++ with_block (live_block_of b) (blocks_of cs)) (sym (up_to_here live k lt)))));
     }
 
+-- a gap with room is the first one
 pub searched-found : (base limit needed : ℕ) (live : List FlatLive) (k from : ℕ) → SearchedTo base limit needed live k from → k < length live → 0 < needed →
     from + needed ≤ (get_or live k no_live).place → IsNewPlace base limit needed live k from
 searched-found base limit needed live k from s lt some long =
@@ -150,6 +154,7 @@ none_left [] (suc k) le = refl
 none_left (b ∷ bs) zero le = absurd (omega arith)
 none_left (b ∷ bs) (suc k) le = none_left bs k (omega arith)
 
+-- behind the last block the gap goes to the limit
 pub searched-last : (base limit needed : ℕ) (live : List FlatLive) (k from : ℕ) → SearchedTo base limit needed live k from → length live ≤ k →
     from + needed ≤ limit → IsNewPlace base limit needed live (length live) from
 searched-last base limit needed live k from s ge long =
@@ -171,6 +176,7 @@ searched-last base limit needed live k from s ge long =
           there ∙ ap (λ (n : ℕ). blocks_of (take n live) ++ live_block_of b ∷ blocks_of (drop n live)) at;
     }
 
+-- without a gap with room the region is full
 pub searched-full : (base limit needed : ℕ) (live : List FlatLive) (k from : ℕ) → SearchedTo base limit needed live k from → length live ≤ k →
     limit < from + needed → IsRegionFull base limit needed live
 searched-full base limit needed live k from s ge short =
@@ -189,6 +195,7 @@ pub record PassedTo (limit place : ℕ) (live : List FlatLive) (k : ℕ) : Type 
   pub found : found_at place (blocks_of live) ≡ found_at place (blocks_of (drop k live))
   pub others : without place (blocks_of live) ≡ blocks_of (take k live) ++ without place (blocks_of (drop k live))
 
+-- the search for a place begins with the first block
 pub passed-start : (base limit place : ℕ) (live : List FlatLive) → are_laid base limit live ≡ true → PassedTo limit place live 0
 passed-start base limit place live h = record {
   within = omega arith;
@@ -209,6 +216,7 @@ passed_laid limit place live k s lt =
     let L : List FlatLive → Type 0 = λ bs. are_laid s.from limit bs ≡ true in
     (laid_front s.from limit (get_or live k no_live) (drop (k + 1) live) (subst L (from_here live k lt) s.laid)).2
 
+-- it passes a block at another place
 pub passed-step : (limit place : ℕ) (live : List FlatLive) (k : ℕ) → PassedTo limit place live k → k < length live →
     ((get_or live k no_live).place ≡ place → ⊥) → PassedTo limit place live (k + 1)
 passed-step limit place live k s lt ne =
@@ -235,6 +243,7 @@ all_kept from limit place (b ∷ bs) h lt =
     let ne : b.place ≡ place → ⊥ = λ (e : b.place ≡ place). omega (arith, e, f.0, lt) in
     kept place b bs ne ∙ ap (λ (xs : List LiveBlock). live_block_of b ∷ xs) (all_kept (b.place + b.len) limit place bs f.2 (omega (arith, f.0, f.1, lt)))
 
+-- a block at the place is found
 pub passed-found : (limit place : ℕ) (live : List FlatLive) (k : ℕ) → PassedTo limit place live k → k < length live →
     (get_or live k no_live).place ≡ place → StartsAt place live k
 passed-found limit place live k s lt e =
@@ -255,6 +264,7 @@ passed-found limit place live k s lt e =
           ∙ sym (map-append live_block_of (take k live) cs)));
     }
 
+-- behind the last block no block starts at the place
 pub passed-all : (limit place : ℕ) (live : List FlatLive) (k : ℕ) → PassedTo limit place live k → length live ≤ k → StartsNowhere place live
 passed-all limit place live k s ge =
     let end = none_left live k ge in

@@ -49,6 +49,7 @@ short-sum B16 = omega arith
 short-sum B32 = omega arith
 short-sum B64 = omega arith
 
+-- a near jump has at most 5 bytes
 pub near-sum : (bits : Bits) → 1 + size_byte bits bits + offset_bytes bits bits ≤ 5
 near-sum B16 = omega arith
 near-sum B32 = omega arith

@@ -117,6 +117,7 @@ memory_back m =
     ∙ (ap (λ (x : Option (Option Register)). memory_from_fields m.scale m.disp (Some m.base) x size) (base_back m.index)
     ∙ ap (λ (d : Option DispSize). memory_from_fields m.scale m.disp (Some m.base) (Some m.index) d) (disp_back m.disp_size))
 
+-- an operand that was made flat is read back
 pub operand_back_flat : (o : Operand) → operand_back (flat_operand o) ≡ Some o
 unfolding operand_back flat_operand
 operand_back_flat Absent = refl
@@ -179,6 +180,7 @@ operands_are i e =
     let P : List Operand → Type 0 = λ ops. operand_at (record i { ops = ops }) 0 ∷ operand_at (record i { ops = ops }) 1 ∷ operand_at (record i { ops = ops }) 2 ∷ operand_at (record i { ops = ops }) 3 ∷ [] ≡ ops in
     subst P (sym is) refl
 
+-- and so is an instruction
 pub instr_back_flat : (i : Instr) (len : ℕ) → length i.ops ≡ 4 → instr_back (flat_instr i len) ≡ Some i
 unfolding instr_back flat_instr
 instr_back_flat i len e =

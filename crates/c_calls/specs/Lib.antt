@@ -22,3 +22,4 @@ pub mod Failing
 pub mod Regions
 pub mod RegionSearch
 pub mod Sizes
+pub use Rattle.operand_info.specs.ByCode as RowColumns

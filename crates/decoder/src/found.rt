@@ -15,7 +15,7 @@ ghost use Rattle.decoder.specs.Cells.{RowIsLate};
 
 use crate::bare::{BareRow, bare_row, immediates_at, is_bare_front};
 use crate::cell::LONGEST;
-use handler_tables::find;
+use handler_tables::find_front;
 use instruction_parts::PrefixState;
 use instruction_parts::sizes::state_size;
 use modrm_sib::{read_fitting_into, read_row_into};
@@ -47,7 +47,7 @@ pub(crate) fn read_found<const BITS: u32, L: Ledger>(
     ensures least { IfSome result (λ _. steps.old + 3 ≤ steps.new) }
 {
     let bits = mode_of::<BITS>();
-    match find::<BITS, L>(state, byte_behind(state, bytes), steps) {
+    match find_front::<BITS, L>(state, byte_behind(state, bytes), steps) {
         None => None,
         Some(code) => match read_by_code(bits, ip, state, code, bytes, out, steps) {
             Some(()) => Some(()),

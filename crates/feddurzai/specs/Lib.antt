@@ -29,6 +29,11 @@ pub use Rattle.masm_text.specs.Text as MasmText
 -- what an instruction does
 pub use Rattle.operand_info.specs.ByCode
 pub use Rattle.operand_info.specs.Operands
+pub use Rattle.instruction_info.specs.Effects
+pub use Rattle.instruction_info.specs.Settings as EffectSettings
+pub use Rattle.instruction_info.specs.Memory as TouchedMemory
+pub use Rattle.instruction_info.specs.Registers as TouchedRegisters
+pub use Rattle.instruction_info.specs.Laws as EffectLaws
 -- moving
 pub use Rattle.code_items.specs.Moving as MovingCode
 pub use Rattle.move_goals.specs.Items as OldItems
@@ -48,6 +53,10 @@ pub use Rattle.code_region.specs.Filling
 pub use Rattle.step_slots.specs.State as SlotState
 pub use Rattle.step_slots.specs.Stepping as SlotSteps
 pub use Rattle.step_slots.specs.Holding
+pub use Rattle.step_slots.specs.Running as SlotCommands
+pub use Rattle.step_slots.specs.Standing as StandingSteps
+pub use Rattle.step_slots.specs.Block as StepBlocks
+pub use Rattle.step_slots.specs.Facts as SlotFacts
 pub mod Stepping
 -- flow
 pub use Rattle.flow_graph.specs.Control
@@ -55,6 +64,16 @@ pub use Rattle.flow_graph.specs.Reached as ReachedOffsets
 pub use Rattle.flow_graph.specs.ReachedFrom as ReachedFromOffsets
 pub use Rattle.flow_graph.specs.Graphs
 pub mod Reached
+-- detours and hooks
+pub use Rattle.detour.specs.Detours
+pub use Rattle.detour.specs.Taken as TakenCode
+pub use Rattle.detour.specs.HookSlots.State as HookState
+pub use Rattle.detour.specs.HookSlots.Opening as HookOpening
+pub use Rattle.detour.specs.HookSlots.Installing as HookInstalls
+pub use Rattle.detour.specs.HookSlots.Removing as HookRemovals
+pub use Rattle.detour.specs.HookSlots.Holding as HookHolding
+pub use Rattle.detour.specs.HookSlots.Running as HookCommands
+pub use Rattle.detour.specs.HookSlots.Facts as HookFacts
 -- streams
 pub use Rattle.byte_ports.specs.Ports
 pub use Rattle.sweep.specs.Streams

@@ -7,10 +7,12 @@ ghost use Rattle.intel_text.specs.Text.{text};
 
 use intel_text::print;
 use std::fmt;
-use std::str::from_utf8;
+use text_parts::text::ascii_str;
 use x86_values::{Bits, Instr};
 
 /// Shows a well-formed instruction in the Intel style, in a mode: what it writes is the text of `print_intel`.
+///
+/// The text is ASCII, so the only failure is one of what it is written to. The contract cannot say so: std's `write_str` says nothing of its failures.
 #[derive(Clone, Copy, PartialEq, Eq, Debug)]
 pub struct Intel {
     pub bits: Bits,
@@ -25,9 +27,6 @@ impl fmt::Display for Intel {
 
     fn fmt<W: fmt::Write>(&self, f: &mut fmt::Formatter<W>) -> fmt::Result {
         let text = print(self.bits, &self.instr);
-        match from_utf8(text.as_slice()) {
-            Ok(text) => f.pad(text),
-            Err(_) => Err(fmt::Error),
-        }
+        f.pad(ascii_str(text.as_slice()))
     }
 }

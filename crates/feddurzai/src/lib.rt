@@ -53,7 +53,7 @@ pub mod assembling {
     pub use intel_reader::{TextError, assemble, laws, read_intel};
 }
 
-/// The text of instructions and registers in three styles.
+/// The text of instructions and registers in three styles. `ascii_str` makes a `str` of it.
 pub mod format {
     pub use crate::intel::Intel;
     pub use att_text::{print as print_att, print_to as print_att_to};
@@ -61,7 +61,7 @@ pub mod format {
     pub use masm_text::{print as print_masm, print_to as print_masm_to};
     pub use text_parts::registers::{register_text, segment_name};
     pub use text_parts::style::Style;
-    pub use text_parts::text::Text;
+    pub use text_parts::text::{Text, ascii_str};
 }
 
 /// What an instruction does: its flow, the access of its operands, its registers, memory and flags, implied ones too, its targets and features. What ends
@@ -70,7 +70,7 @@ pub mod info {
     pub use crate::columns::{access_of_instr, flow_of_instr, memory_size_of_instr};
     pub use instruction_info::{
         AccessKind, Features, FlagSet, FlagUse, MemoryUse, RegisterUse, all_memory, all_registers,
-        features_of, flags_of, full_register, laws as effect_laws, needed_features,
+        features_of, flags_of, full_register, laws as effect_laws, needed_features, used_features,
     };
     pub use operand_info::{
         Access, Flow, RegUse, access_of, flow_of, ip_operand, laws, memory_size, near_target,
@@ -78,7 +78,8 @@ pub mod info {
     };
 }
 
-/// The rows of the table, by code, name and opcode byte, and their notation. `mnemonic` is `name`.
+/// The rows of the table, by code, name and opcode byte, and their notation. `mnemonic` is `name`; `notation_laws` has that a row's notation is read
+/// back as its shape.
 pub mod rows {
     pub use instruction_parts::row_types::{
         Class, ImmWord, LBit, Map, Marks, ModRmRule, ModeMask, OpKind, Place, Plus, PlusWord, Row,
@@ -92,7 +93,7 @@ pub mod rows {
     pub use row_relation::{
         ModRm, PrefixState, Sib, Spelling, Vex, row_fits, row_meaning, row_memory_size,
     };
-    pub use text_rows::row_lines::{notation_of, row_line};
+    pub use text_rows::row_lines::{laws as notation_laws, notation_of, row_line};
 }
 
 /// Moving code to other addresses: `move_code` takes bytes, `move_items` what was read of them, and the others instructions that some bytes spell.

@@ -4,7 +4,7 @@ ghost use Rattle.std.specs.Prelude.{length, ◌≡◌};
 ghost use Rattle.c_calls.specs.Answers.{IsCodeNamed, count_or_refusal, name_answer, notation_answer, text_within, with_text};
 ghost use Rattle.c_calls.specs.Info.{access_number};
 ghost use Rattle.c_calls.specs.RowOperands.{access_left, kind_answer};
-ghost use Rattle.operand_info.specs.ByCode.{access_of};
+ghost use Rattle.c_calls.specs.RowColumns.{access_of};
 
 use c_calls::{row_operands, rows};
 

@@ -3,3 +3,4 @@ pub mod Tree
 pub mod Computed
 pub mod TreeLemmas
 pub mod RootLemmas
+pub mod WithoutByte

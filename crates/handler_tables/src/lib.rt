@@ -6,8 +6,10 @@
 
 mod generated_nodes;
 mod node;
+mod source;
 mod splits;
 mod walk;
 
 pub use node::{Next, Node};
-pub use walk::find;
+pub use row_lists::row_fields::Fields;
+pub use walk::{find, find_front};

@@ -12,14 +12,14 @@ use crate::node::Split;
 use instruction_parts::PrefixState;
 use instruction_parts::sizes::bit_of_rex;
 use prefixes::mode_of;
-use row_lists::row_fields::{Map, Rep};
+use row_lists::row_fields::{Fields, Map, Rep};
 use x86_values::Bits;
 
 /// The number of what a node splits by, from a front and the byte behind its opcode byte.
 // Not built into the walk: there each of these numbers would be made before the first node, and most walks need one or two.
 #[inline(never)]
 #[tactic(auto, unfolding(opcode_rows::specs::UniqueSpelling::FieldsOf::fields_of))]
-pub(crate) fn field_of<const BITS: u32>(
+pub(crate) fn front_field<const BITS: u32>(
     split: Split,
     state: &PrefixState,
     byte: Option<u8>,
@@ -27,7 +27,7 @@ pub(crate) fn field_of<const BITS: u32>(
     ensures { result ≡ field_at (mode_of BITS) split (fields.fields_of state.now byte) }
 {
     match split {
-        Split::Kind => kind_number(state),
+        Split::Kind => front_kind(state),
         Split::Opcode => state.opcode as usize,
         Split::Prefix => prefix_number(repeat_of(state), size66_of(state)),
         Split::Place => bit(byte_number(byte) / 64 == 3),
@@ -41,10 +41,30 @@ pub(crate) fn field_of<const BITS: u32>(
     }
 }
 
+/// The number of what a node splits by, from the nine fields.
+#[inline(never)]
+pub(crate) fn given_field<const BITS: u32>(split: Split, fields: &Fields) -> usize
+    ensures { result ≡ field_at (mode_of BITS) split fields.now }
+{
+    match split {
+        Split::Kind => kind_of(fields.vex, fields.map),
+        Split::Opcode => fields.opcode as usize,
+        Split::Prefix => prefix_number(fields.rep, fields.size66),
+        Split::Place => bit(byte_number(fields.modrm) / 64 == 3),
+        Split::Reg => (byte_number(fields.modrm) / 8 % 8) as usize,
+        Split::Rm => (byte_number(fields.modrm) % 8) as usize,
+        Split::Mode => size_number(mode_of::<BITS>()),
+        Split::Size => size_number(plain_size(mode_of::<BITS>(), fields.size66, fields.w)),
+        Split::W => bit(fields.w),
+        Split::L => bit(fields.l),
+        Split::RexB => bit(fields.rex_b),
+    }
+}
+
 /// The number of the field by which a node of three entries splits: mostly the mode or the operand size, which are tested before the others.
 #[inline(always)]
 #[tactic(auto, unfolding(opcode_rows::specs::UniqueSpelling::FieldsOf::fields_of))]
-pub(crate) fn size_field_of<const BITS: u32>(
+pub(crate) fn front_size_field<const BITS: u32>(
     split: Split,
     state: &PrefixState,
     byte: Option<u8>,
@@ -54,7 +74,7 @@ pub(crate) fn size_field_of<const BITS: u32>(
     match split {
         Split::Mode => size_number(mode_of::<BITS>()),
         Split::Size => state_size_number::<BITS>(state),
-        _ => field_of::<BITS>(split, state, byte),
+        _ => front_field::<BITS>(split, state, byte),
     }
 }
 
@@ -75,12 +95,20 @@ fn bit(b: bool) -> usize
     if b { 1 } else { 0 }
 }
 
-/// The number of the kind and the map.
+/// The number of the kind and the map of a front.
 #[inline(always)]
-pub(crate) fn kind_number(state: &PrefixState) -> usize
+pub(crate) fn front_kind(state: &PrefixState) -> usize
     ensures { result ≡ map_number (is_some state.now.vex) state.now.map }
 {
-    match (state.vex.is_some(), state.map) {
+    kind_of(state.vex.is_some(), state.map)
+}
+
+/// The number of the kind and the map.
+#[inline(always)]
+pub(crate) fn kind_of(vex: bool, map: Map) -> usize
+    ensures { result ≡ map_number vex map }
+{
+    match (vex, map) {
         (false, Map::One) => 0,
         (false, Map::M0f) => 1,
         (false, Map::M0f38) => 2,

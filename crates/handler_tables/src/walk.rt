@@ -1,21 +1,41 @@
 //! The walk from the root to a row.
-ghost use Rattle.std.specs.Prelude.{◌≡◌, ◌+◌, ◌<◌, ◌≤◌, length, slice_get, Some, MatchOption, IsSome, IsTrue};
+ghost use Rattle.std.specs.Prelude.{◌≡◌, ◌+◌, ◌<◌, ◌≤◌, length, slice_get, Some, None, MatchOption, IfSome, IsSome, IsTrue};
 ghost use Rattle.prefixes.specs.Answer.{is_mode, mode_of};
 ghost use Rattle.row_lists.specs.RowFields.Holds.{HoldsNowhere, IsOnlyRow};
 ghost use Rattle.opcode_rows.specs.Table.{table};
 ghost use Rattle.handler_tables.specs.Nodes.{nodes2, nodes3, nodes4, nodes8, nodes256, splits2, splits3, splits4, splits8};
 ghost use Rattle.opcode_rows.specs.UniqueSpelling.FieldsOf.{fields_of};
-ghost use Rattle.handler_tables.specs.Splits.{width_of, field_at, root_of};
+ghost use Rattle.instruction_parts.specs.declared.row_types.Row.{Row};
+ghost use Rattle.instruction_parts.specs.declared.row_types.ModRmRule.TheVariants.{No};
+ghost use Rattle.handler_tables.specs.Splits.{width_of, field_at};
 
 use crate::generated_nodes::{
     NODES2, NODES3, NODES4, NODES8, NODES256, SPLITS2, SPLITS3, SPLITS4, SPLITS8,
 };
 use crate::node::{Next, Node, Split};
-use crate::splits::{field_of, kind_number, size_field_of};
+use crate::source::{FieldSource, Front, Given};
 use instruction_parts::PrefixState;
+use row_lists::row_fields::Fields;
 use std::sync::ledger::Ledger;
 use step_count::Steps;
 use x86_values::Code;
+
+/// The code of the one row of the table whose conditions hold on the nine fields in a mode; None exactly where no row's do.
+///
+/// `BITS` is the mode: 16, 32 or 64. Each field may have any value, also one that no bytes give. Without a ModRM byte only a row that has none is
+/// found. Each look-up in a node is a step: at most 11, and at least 2 where a row is found.
+pub fn find<const BITS: u32, L: Ledger>(fields: &Fields, steps: &mut Steps<L>) -> Option<Code>
+    requires { IsTrue (is_mode BITS) }
+    ensures row { MatchOption result
+        (HoldsNowhere (mode_of BITS) table fields.now)
+        (λ code. IsOnlyRow (mode_of BITS) table fields.now code.0) }
+    ensures without_byte { fields.now.modrm ≡ None
+        → IfSome result (λ code. (row : Row) → slice_get table code.0 ≡ Some row → row.modrm ≡ No) }
+    ensures most { steps.new ≤ steps.old + 11 }
+    ensures least { IsSome result → steps.old + 2 ≤ steps.new }
+{
+    walk::<Given<BITS>, L>(&Given::<BITS> { fields }, steps)
+}
 
 /// The code of the one row of the table whose conditions hold in a mode on a front and the byte behind its opcode byte; None exactly where no
 /// row's do.
@@ -23,7 +43,7 @@ use x86_values::Code;
 /// `BITS` is the mode: 16, 32 or 64. Each look-up in a node is a step: at most 11, and at least 2 where a row is found.
 // Of the front only what a node asks for is looked at.
 #[inline(always)]
-pub fn find<const BITS: u32, L: Ledger>(
+pub fn find_front<const BITS: u32, L: Ledger>(
     state: &PrefixState,
     byte: Option<u8>,
     steps: &mut Steps<L>,
@@ -35,9 +55,21 @@ pub fn find<const BITS: u32, L: Ledger>(
     ensures most { steps.new ≤ steps.old + 11 }
     ensures least { IsSome result → steps.old + 2 ≤ steps.new }
 {
-    let opcode = state.opcode as usize;
-    let root = node8(root_number(byte));
-    let cells = match root.next(kind_number(state), steps) {
+    walk::<Front<BITS>, L>(&Front::<BITS> { state, byte }, steps)
+}
+
+/// The walk from a root to the one row whose conditions hold on the fields of a source.
+#[inline(always)]
+fn walk<S: FieldSource, L: Ledger>(source: &S, steps: &mut Steps<L>) -> Option<Code>
+    ensures row { MatchOption result
+        (HoldsNowhere S.bits table (S.fields source.now))
+        (λ code. IsOnlyRow S.bits table (S.fields source.now) code.0) }
+    ensures most { steps.new ≤ steps.old + 11 }
+    ensures least { IsSome result → steps.old + 2 ≤ steps.new }
+{
+    let opcode = source.opcode() as usize;
+    let root = node8(source.root_number());
+    let cells = match root.next(source.kind_number(), steps) {
         Next::Stop => return None,
         Next::N256(cells) => cells,
         _ => unreachable!(),
@@ -48,10 +80,10 @@ pub fn find<const BITS: u32, L: Ledger>(
         next = match next {
             Next::Stop => return None,
             Next::Leaf(code) => return Some(code),
-            Next::N2(at) => along::<BITS, 2, L>(&node2(at), split2(at), state, byte, steps),
-            Next::N3(at) => along::<BITS, 3, L>(&node3(at), split3(at), state, byte, steps),
-            Next::N4(at) => along::<BITS, 4, L>(&node4(at), split4(at), state, byte, steps),
-            Next::N8(at) => along::<BITS, 8, L>(&node8(at), split8(at), state, byte, steps),
+            Next::N2(at) => along::<2, S, L>(&node2(at), split2(at), source, steps),
+            Next::N3(at) => along::<3, S, L>(&node3(at), split3(at), source, steps),
+            Next::N4(at) => along::<4, S, L>(&node4(at), split4(at), source, steps),
+            Next::N8(at) => along::<8, S, L>(&node8(at), split8(at), source, steps),
             Next::N256(_) => unreachable!(),
         };
     }
@@ -60,46 +92,31 @@ pub fn find<const BITS: u32, L: Ledger>(
 
 /// The number of what a node of `N` entries splits by.
 #[inline(always)]
-fn field_in<const BITS: u32, const N: usize>(
-    split: Split,
-    state: &PrefixState,
-    byte: Option<u8>,
-) -> usize
-    ensures { result ≡ field_at (mode_of BITS) split (fields_of state.now byte) }
+fn field_in<const N: usize, S: FieldSource>(split: Split, source: &S) -> usize
+    ensures { result ≡ field_at S.bits split (S.fields source.now) }
 {
     if N == 3 {
-        size_field_of::<BITS>(split, state, byte)
+        source.size_field_of(split)
     } else {
-        field_of::<BITS>(split, state, byte)
+        source.field_of(split)
     }
 }
 
 /// The entry of a node below the opcode byte for what it splits by.
 #[inline(always)]
-fn along<const BITS: u32, const N: usize, L: Ledger>(
+fn along<const N: usize, S: FieldSource, L: Ledger>(
     node: &Node<N>,
     split: Split,
-    state: &PrefixState,
-    byte: Option<u8>,
+    source: &S,
     steps: &mut Steps<L>,
 ) -> Next
     requires { width_of split ≤ N }
-    ensures entry { slice_get node.now (field_at (mode_of BITS) split (fields_of state.now byte)) ≡ Some result }
+    ensures entry { slice_get node.now (field_at S.bits split (S.fields source.now)) ≡ Some result }
     ensures step { steps.new ≡ steps.old + 1 }
 {
     // Read, since that it is a byte is known of what is read.
-    let _opcode = state.opcode;
-    node.next(field_in::<BITS, N>(split, state, byte), steps)
-}
-
-/// The root where a byte follows the opcode byte, and the root where none does.
-fn root_number(byte: Option<u8>) -> u16
-    ensures { result ≡ root_of byte }
-{
-    match byte {
-        Some(_) => 0,
-        None => 1,
-    }
+    let _opcode = source.opcode();
+    node.next(field_in::<N, S>(split, source), steps)
 }
 
 /// A node of two entries.

@@ -16,13 +16,14 @@ use Rattle.operand_info.specs.Names.{is_jump, is_call, is_conditional, is_return
 use Rattle.operand_info.specs.Columns.{has_direct_target, flow_at}
 use Rattle.operand_info.specs.ByCode.{flow_in, flow_of}
 use Rattle.instruction_info.specs.declared.effect.Effect.{Effect}
+use Rattle.instruction_info.specs.declared.effect.ImpliedMemory.{ImpliedMemory}
 use Rattle.instruction_info.specs.Effects.{indexes, effects, memory_list, no_effect, effect_of, memory_in, implied_memory_of, flags_read, flags_written, flags_cleared, flags_set, flags_undefined, flags_kept, features_of, registers_of}
 use Rattle.operand_info.specs.Operands.{uses}
 use Rattle.instruction_info.specs.declared.registers.RegisterUse.{RegisterUse}
 use Rattle.instruction_info.specs.Settings.{has_repeat, setting_of}
 use Rattle.instruction_info.specs.Memory.{all_memory}
-use Rattle.instruction_info.specs.Registers.{named_uses, segment_uses, implied_uses, counter_use, all_registers}
-use Rattle.instruction_info.specs.Laws.{tested_flags, is_calling, is_returning, is_system_return, is_push, is_pop, is_string_row, counter, added_features}
+use Rattle.instruction_info.specs.Registers.{replaces, named_uses, segment_uses, implied_uses, counter_use, all_registers}
+use Rattle.instruction_info.specs.Laws.{tested_flags, is_calling, is_returning, is_system_return, is_push, is_pop, PageFlags, slots_of, are_slots, page_flags, is_arithmetic, is_increment, is_logic, is_rotate, is_shift, is_signed_shift, uses_carry, is_string_row, counter, added_features}
 
 -- ---- each effect
 
@@ -215,6 +216,96 @@ unfolding implied_memory_of
 return-pops code row at returns user =
     pushes_if-true _ _ _ (row-passes code row at).return_ (ap (λ f. is_returning f) (sym (flow-row code row at)) ∙ returns) user
 
+-- ---- slots and the flags of arithmetic, in one pass over the table
+
+abbrev moves_if : Option ℕ → List ImpliedMemory → Bool
+moves_if None ms = true
+moves_if (Some count) ms = are_slots count ms
+
+abbrev has_flags : Option PageFlags → Effect → Bool
+has_flags None e = true
+has_flags (Some page) e =
+    e.read == page.read && (e.written == page.written && (e.cleared == page.cleared && (e.undefined == page.undefined && e.kept == page.kept)))
+
+abbrev moves_slots : List ℕ → Row → Effect → Bool
+moves_slots name row e = moves_if (slots_of name) (memory_in e)
+
+abbrev is_of_page : List ℕ → Row → Effect → Bool
+is_of_page name row e = has_flags (page_flags name row) e
+
+abbrev is_as_paged : List ℕ → Row → Effect → Bool
+is_as_paged name row e = moves_slots name row e && is_of_page name row e
+
+all_are_paged : all_rows is_as_paged names table indexes ≡ true
+unfolding all_rows effects indexes names table rows_in spots integer_rows integer_flat x87_rows x87_flat sse_rows sse_flat vex_rows vex_flat memory_list slots_of page_flags is_arithmetic is_increment is_logic is_rotate is_shift is_signed_shift uses_carry
+all_are_paged = refl
+
+-- a call or a return moves the slots of its name
+pub slots-moved : (code count : ℕ) (row : Row) → slice_get table code ≡ Some row → slots_of (name_of code) ≡ Some count → IsTrue (are_slots count (implied_memory_of code))
+unfolding implied_memory_of
+slots-moved code count row at named =
+    let name = name_of code in
+    let e = effect_of code in
+    ap (λ o. moves_if o (memory_in e)) (sym named) ∙ (and_parts (moves_slots name row e) (is_of_page name row e) (each_row is_as_paged all_are_paged code row at)).0
+
+abbrev last_two : PageFlags → Effect → Bool
+last_two page e = e.undefined == page.undefined && e.kept == page.kept
+
+abbrev last_three : PageFlags → Effect → Bool
+last_three page e = e.cleared == page.cleared && last_two page e
+
+abbrev last_four : PageFlags → Effect → Bool
+last_four page e = e.written == page.written && last_three page e
+
+record HasFlags (page : PageFlags) (e : Effect) : Type 0 where
+  read : e.read ≡ page.read
+  written : e.written ≡ page.written
+  cleared : e.cleared ≡ page.cleared
+  undefined : e.undefined ≡ page.undefined
+  kept : e.kept ≡ page.kept
+
+flags-of_page : (code : ℕ) (row : Row) (page : PageFlags) → slice_get table code ≡ Some row → page_flags (name_of code) row ≡ Some page
+    → HasFlags page (effect_of code)
+flags-of_page code row page at paged =
+    let name = name_of code in
+    let e = effect_of code in
+    let h = ap (λ o. has_flags o e) (sym paged) ∙ (and_parts (moves_slots name row e) (is_of_page name row e) (each_row is_as_paged all_are_paged code row at)).1 in
+    let h0 = (and_parts (e.read == page.read) (last_four page e) h).1 in
+    let h1 = (and_parts (e.written == page.written) (last_three page e) h0).1 in
+    let h2 = (and_parts (e.cleared == page.cleared) (last_two page e) h1).1 in
+    record {
+      read = eqb-true e.read page.read (and_parts (e.read == page.read) (last_four page e) h).0;
+      written = eqb-true e.written page.written (and_parts (e.written == page.written) (last_three page e) h0).0;
+      cleared = eqb-true e.cleared page.cleared (and_parts (e.cleared == page.cleared) (last_two page e) h1).0;
+      undefined = eqb-true e.undefined page.undefined (and_parts (e.undefined == page.undefined) (e.kept == page.kept) h2).0;
+      kept = eqb-true e.kept page.kept (and_parts (e.undefined == page.undefined) (e.kept == page.kept) h2).1;
+    }
+
+-- arithmetic reads the flags that its page says
+pub page-read : (code : ℕ) (row : Row) (page : PageFlags) → slice_get table code ≡ Some row → page_flags (name_of code) row ≡ Some page → flags_read code ≡ page.read
+unfolding flags_read
+page-read code row page at paged = (flags-of_page code row page at paged).read
+
+-- it writes those that its page says
+pub page-written : (code : ℕ) (row : Row) (page : PageFlags) → slice_get table code ≡ Some row → page_flags (name_of code) row ≡ Some page → flags_written code ≡ page.written
+unfolding flags_written
+page-written code row page at paged = (flags-of_page code row page at paged).written
+
+-- those that its page clears are cleared
+pub page-cleared : (code : ℕ) (row : Row) (page : PageFlags) → slice_get table code ≡ Some row → page_flags (name_of code) row ≡ Some page → flags_cleared code ≡ page.cleared
+unfolding flags_cleared
+page-cleared code row page at paged = (flags-of_page code row page at paged).cleared
+
+-- those that its page leaves undefined are undefined
+pub page-undefined : (code : ℕ) (row : Row) (page : PageFlags) → slice_get table code ≡ Some row → page_flags (name_of code) row ≡ Some page → flags_undefined code ≡ page.undefined
+unfolding flags_undefined
+page-undefined code row page at paged = (flags-of_page code row page at paged).undefined
+
+-- those that its page keeps under a count of 0 are kept
+pub page-kept : (code : ℕ) (row : Row) (page : PageFlags) → slice_get table code ≡ Some row → page_flags (name_of code) row ≡ Some page → flags_kept code ≡ page.kept
+unfolding flags_kept
+page-kept code row page at paged = (flags-of_page code row page at paged).kept
+
 -- ---- strings
 
 same-true : (a b : Bool) → same a b ≡ true → a ≡ b
@@ -263,7 +354,7 @@ pub counter-last : (bits : Bits) (i : Instr) (row : Row) → slice_get table i.c
     → (front : List RegisterUse) × (all_registers bits i ≡ front ++ counter bits i ∷ [])
 unfolding all_registers
 counter-last bits i row at string repeat =
-    let named = named_uses (uses i) in
+    let named = named_uses (replaces i) (uses i) in
     let segments = segment_uses bits (all_memory bits i) in
     let implied = implied_uses (setting_of bits i) (registers_of i.code.0) in
     let last : counter_use (setting_of bits i) ≡ counter bits i ∷ [] = ap (λ b. counter_if bits i b) (repeated-true bits i row at string repeat) in (

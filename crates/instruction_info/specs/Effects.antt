@@ -1,8 +1,14 @@
 -- The effects of the rows: the tables of constants, and what they say of a code.
-use Rattle.std.specs.Prelude.{ℕ, ◌+◌, nat_le, Bool, false, ◌&&◌, if◌then◌else◌, List, slice_get, unwrap_or, take, drop}
+use Rattle.std.specs.Prelude.{ℕ, ◌+◌, ◌/◌, ◌==◌, nat_le, Bool, false, ◌&&◌, ◌||◌, if◌then◌else◌, List, Option, Some, None, slice_get, unwrap_or, take, drop}
 use Rattle.std.specs.List.{list_any}
 use Rattle.x86_values.specs.declared.Instr.{Instr}
 use Rattle.x86_values.specs.Operands.{is_memory}
+use Rattle.instruction_parts.specs.declared.row_types.Row.{Row}
+use Rattle.instruction_parts.specs.declared.row_types.RowKind.{RowKind}
+use Rattle.instruction_parts.specs.declared.row_types.RowKind.TheVariants.{Legacy}
+use Rattle.instruction_parts.specs.declared.row_types.Map.{Map}
+use Rattle.instruction_parts.specs.declared.row_types.Map.TheVariants.{M0f}
+use Rattle.opcode_rows.specs.Table.{table}
 use Rattle.instruction_info.specs.declared.effect.Effect.{Effect}
 use Rattle.instruction_info.specs.declared.effect.NamedMemory.TheVariants.{AsOperand}
 use Rattle.instruction_info.specs.declared.effect.ImpliedRegister.{ImpliedRegister}
@@ -83,11 +89,11 @@ flags_undefined code = (effect_of code).undefined
 unfoldable pub flags_kept : ℕ → ℕ
 flags_kept code = (effect_of code).kept
 
--- the CPUID features that are needed (the feature flag of the opcode table)
+-- the CPUID features that are used (the feature flag of the opcode table)
 unfoldable pub features_of : ℕ → ℕ
 features_of code = (effect_of code).features
 
--- those that the form without memory needs, of a row that has both forms
+-- those that the form without memory uses, of a row that has both forms
 unfoldable pub register_features_of : ℕ → ℕ
 register_features_of code = (effect_of code).register_features
 
@@ -95,9 +101,24 @@ register_features_of code = (effect_of code).register_features
 abbrev pub names_memory : Instr → Bool
 names_memory i = list_any is_memory i.ops
 
--- the features that an instruction needs: those of its form, with memory or without
+-- the features that an instruction uses: those of its form, with memory or without
+unfoldable pub used_features : Instr → ℕ
+used_features i = if names_memory i then features_of i.code.0 else register_features_of i.code.0
+
+-- the place is kept for hints, 0F 0D and 0F 18 to 0F 1F: a processor without the feature of a hint executes a NOP there (volume 2, A.3: table A-3;
+-- ENDBR32, ENDBR64, RDSSP)
+abbrev pub is_hint_place : RowKind → Map → ℕ → Bool
+is_hint_place Legacy M0f op = op == 0xD || op / 8 == 3
+is_hint_place _ _ op = false
+
+-- the same of a row that may be absent
+abbrev pub is_hint : Option Row → Bool
+is_hint None = false
+is_hint (Some row) = is_hint_place row.kind row.map row.opcode
+
+-- the features that an instruction needs: those that it uses, none where it is a NOP without them
 unfoldable pub needed_features : Instr → ℕ
-needed_features i = if names_memory i then features_of i.code.0 else register_features_of i.code.0
+needed_features i = if is_hint (slice_get table i.code.0) then 0 else used_features i
 
 -- the registers that an effect implies
 abbrev pub registers_in : Effect → List ImpliedRegister

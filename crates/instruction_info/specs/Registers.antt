@@ -1,5 +1,5 @@
 -- The registers that an instruction touches.
-use Rattle.std.specs.Prelude.{ℕ, nat_lt, Bool, true, false, if◌then◌else◌, List, [], ◌∷◌, ◌++◌}
+use Rattle.std.specs.Prelude.{ℕ, nat_lt, ◌==◌, Bool, true, false, ◌&&◌, if◌then◌else◌, List, [], ◌∷◌, ◌++◌, Option, Some, None, slice_get}
 use Rattle.x86_values.specs.declared.Bits.{Bits}
 use Rattle.x86_values.specs.declared.Bits.TheVariants.{B16, B32, B64}
 use Rattle.x86_values.specs.declared.Segment.{Segment}
@@ -7,6 +7,14 @@ use Rattle.x86_values.specs.declared.Segment.TheVariants.{Fs, Gs}
 use Rattle.x86_values.specs.declared.Register.{Register}
 use Rattle.x86_values.specs.declared.Register.TheVariants.{Low8, High8, R16, R32, R64, Seg, Cr, Dr, St, Mm, Xmm, Ymm, Eip, Rip}
 use Rattle.x86_values.specs.declared.Instr.{Instr}
+use Rattle.instruction_parts.specs.declared.row_types.Row.{Row}
+use Rattle.instruction_parts.specs.declared.row_types.RowKind.{RowKind}
+use Rattle.instruction_parts.specs.declared.row_types.RowKind.TheVariants.{Legacy}
+use Rattle.instruction_parts.specs.declared.row_types.Map.{Map}
+use Rattle.instruction_parts.specs.declared.row_types.Map.TheVariants.{M0f}
+use Rattle.instruction_parts.specs.declared.row_types.Class.{Class}
+use Rattle.instruction_parts.specs.declared.row_types.Class.TheVariants.{F2, F3}
+use Rattle.opcode_rows.specs.Table.{table}
 use Rattle.operand_info.specs.declared.columns.Access.{Access}
 use Rattle.operand_info.specs.declared.columns.Access.TheVariants as operand
 use Rattle.operand_info.specs.declared.registers.RegUse.{RegUse}
@@ -19,7 +27,7 @@ use Rattle.instruction_info.specs.declared.effect.ImpliedRegister.{ImpliedRegist
 use Rattle.instruction_info.specs.declared.memory.MemoryUse.{MemoryUse}
 use Rattle.instruction_info.specs.declared.registers.RegisterUse.{RegisterUse}
 use Rattle.instruction_info.specs.declared.setting.Setting.{Setting}
-use Rattle.instruction_info.specs.Effects.{registers_of}
+use Rattle.instruction_info.specs.Effects.{names_memory, registers_of}
 use Rattle.instruction_info.specs.Settings.{setting_of, register_of_size, register_in, done}
 use Rattle.instruction_info.specs.Memory.{all_memory}
 
@@ -42,17 +50,33 @@ full_register (Mm n) = Mm n
 
 -- ---- registers that operands name
 
+-- the place is that of MOVSS and MOVSD into a vector register: F3 0F 10 and F2 0F 10
+abbrev pub is_scalar_load : RowKind → Map → Class → ℕ → Bool
+is_scalar_load Legacy M0f F3 op = op == 0x10
+is_scalar_load Legacy M0f F2 op = op == 0x10
+is_scalar_load _ _ _ op = false
+
+-- the same of a row that may be absent
+abbrev pub loads_scalar : Option Row → Bool
+loads_scalar None = false
+loads_scalar (Some row) = is_scalar_load row.kind row.map row.class row.opcode
+
+-- the form of the instruction replaces what the columns have as read and written: MOVSS and MOVSD from memory write 0 to the rest of their
+-- destination, which a move between registers keeps (volume 2, MOVSS and MOVSD: operation)
+unfoldable pub replaces : Instr → Bool
+replaces i = loads_scalar (slice_get table i.code.0) && names_memory i
+
 -- the access of an operand
-abbrev pub operand_access : Access → AccessKind
-operand_access operand.None = Read
-operand_access operand.Read = Read
-operand_access operand.Write = Write
-operand_access operand.ReadWrite = ReadWrite
+abbrev pub operand_access : Bool → Access → AccessKind
+operand_access replaced operand.None = Read
+operand_access replaced operand.Read = Read
+operand_access replaced operand.Write = Write
+operand_access replaced operand.ReadWrite = if replaced then Write else ReadWrite
 
 -- their uses
-unfoldable pub named_uses : List RegUse → List RegisterUse
-named_uses [] = []
-named_uses (one ∷ rest) = record { reg = one.reg; access = operand_access one.access } ∷ named_uses rest
+unfoldable pub named_uses : Bool → List RegUse → List RegisterUse
+named_uses replaced [] = []
+named_uses replaced (one ∷ rest) = record { reg = one.reg; access = operand_access replaced one.access } ∷ named_uses replaced rest
 
 -- ---- segment registers
 
@@ -111,6 +135,6 @@ counter_use s = if s.repeated then record { reg = register_of_size s.address 1; 
 -- what operands name, the segments of memory, what is implied, and the counter
 unfoldable pub all_registers : Bits → Instr → List RegisterUse
 all_registers bits i =
-    named_uses (uses i)
+    named_uses (replaces i) (uses i)
     ++ (segment_uses bits (all_memory bits i)
     ++ (implied_uses (setting_of bits i) (registers_of i.code.0) ++ counter_use (setting_of bits i)))

@@ -1,14 +1,15 @@
-//! The CPUID features that an instruction needs.
+//! The CPUID features that an instruction uses, and those that it needs.
 
-ghost use Rattle.std.specs.Prelude.{⊤, ◌≡◌, ◌<◌, [], ◌∷◌, codes};
+ghost use Rattle.std.specs.Prelude.{⊤, ◌≡◌, ◌<◌, [], ◌∷◌, Some, codes};
 ghost use Rattle.instruction_info.specs.Effects as spec;
 
 use crate::effect::effect_at;
 use bitflags::{Flag, Flags, bitflag_items};
-use opcode_rows::ROWS;
+use instruction_parts::row_types::{Map, Row, RowKind};
+use opcode_rows::{ROWS, row_of};
 use x86_values::{Code, Instr};
 
-/// CPUID feature flags (Intel SDM volume 2, CPUID), each by the name that it has there. An instruction needs all of its set.
+/// CPUID feature flags (Intel SDM volume 2, CPUID), each by the name that it has there. An instruction uses or needs all of its set.
 #[derive(Clone, Copy, PartialEq, Eq, Debug)]
 pub struct Features(pub u64);
 
@@ -92,8 +93,8 @@ impl Flags for Features {
 
 /// The features that the manual's page of a code below `ROWS` names, none for what each processor has.
 ///
-/// Two forms of a row can need different ones: VBROADCASTSS and VBROADCASTSD from memory need AVX, which is reported, and from a register AVX2, which
-/// `needed_features` tells.
+/// Two forms of a row can use different ones: VBROADCASTSS and VBROADCASTSD from memory use AVX, which is reported, and from a register AVX2, which
+/// `used_features` reports. A hint uses a feature and does not need it: `needed_features` leaves it out.
 pub fn features_of(code: Code) -> Features
     requires { code.0 < ROWS }
     ensures { result.0 ≡ spec.features_of code.0 }
@@ -101,7 +102,7 @@ pub fn features_of(code: Code) -> Features
     Features(effect_at(code).features)
 }
 
-/// The features that the form without memory of a code below `ROWS` needs: those of `features_of` for all rows but a few.
+/// The features that the form without memory of a code below `ROWS` uses: those of `features_of` for all rows but a few.
 #[inline]
 fn register_features_of(code: Code) -> Features
     requires { code.0 < ROWS }
@@ -112,22 +113,47 @@ fn register_features_of(code: Code) -> Features
 
 /// Whether an operand is memory.
 #[inline]
-fn has_memory(instr: &Instr) -> bool
+pub(crate) fn has_memory(instr: &Instr) -> bool
     ensures { result ≡ spec.names_memory instr.now }
 {
     instr.ops.iter().any(|op| op.is_memory())
 }
 
-/// The features that an instruction needs whose code is below `ROWS`: those of its row, where an operand is memory, and of two forms of a row else those
-/// of the other.
-#[tactic(auto, unfolding(crate::specs::Effects::needed_features))]
-pub fn needed_features(instr: &Instr) -> Features
+/// The features that an instruction uses whose code is below `ROWS`: those of its row, where an operand is memory, and of two forms of a row else those
+/// of the other. A processor that lacks one refuses the instruction, or executes another in its place: a NOP, BSF or BSR.
+#[tactic(auto, unfolding(crate::specs::Effects::used_features))]
+pub fn used_features(instr: &Instr) -> Features
     requires { instr.now.code.0 < ROWS }
-    ensures { result.0 ≡ spec.needed_features instr.now }
+    ensures { result.0 ≡ spec.used_features instr.now }
 {
     if has_memory(instr) {
         features_of(instr.code)
     } else {
         register_features_of(instr.code)
+    }
+}
+
+/// Whether a row stands at a place that is kept for hints: 0F 0D and 0F 18 to 0F 1F.
+#[inline]
+fn is_hint(row: &Row) -> bool
+    ensures { result ≡ spec.is_hint (Some row.now) }
+{
+    match (row.kind, row.map) {
+        (RowKind::Legacy, Map::M0f) => row.opcode == 0x0D || row.opcode / 8 == 3,
+        _ => false,
+    }
+}
+
+/// The features that an instruction needs whose code is below `ROWS`: those of `used_features`, and none of a hint. Prefetches, RDSSPD, RDSSPQ, ENDBR32
+/// and ENDBR64 use a feature, and a processor without it executes them as a NOP.
+#[tactic(auto, unfolding(crate::specs::Effects::needed_features))]
+pub fn needed_features(instr: &Instr) -> Features
+    requires { instr.now.code.0 < ROWS }
+    ensures { result.0 ≡ spec.needed_features instr.now }
+{
+    if is_hint(&row_of(instr.code)) {
+        Features(0)
+    } else {
+        used_features(instr)
     }
 }

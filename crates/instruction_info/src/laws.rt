@@ -13,7 +13,7 @@ ghost use Rattle.instruction_info.specs.declared.registers.RegisterUse.{Register
 ghost use Rattle.instruction_info.specs.Effects.{effect_of, implied_memory_of, flags_read, flags_written, flags_cleared, flags_set, flags_undefined, flags_kept, features_of};
 ghost use Rattle.instruction_info.specs.Settings.{has_repeat};
 ghost use Rattle.instruction_info.specs.Registers.{all_registers};
-ghost use Rattle.instruction_info.specs.Laws.{tested_flags, is_calling, is_returning, is_system_return, is_push, is_pop, is_string_row, counter, added_features};
+ghost use Rattle.instruction_info.specs.Laws.{PageFlags, tested_flags, is_calling, is_returning, is_system_return, is_push, is_pop, slots_of, are_slots, page_flags, is_string_row, counter, added_features};
 
 /// Flags that are cleared or set are written, none is both written and undefined, and those that may be kept are one or the other.
 pub fn flags_are_told_apart()
@@ -40,6 +40,27 @@ pub fn returns_pop()
         → is_system_return (name_of code) ≡ false → IsTrue (list_any is_pop (implied_memory_of code)) }
 {}
 
+/// A near call pushes one slot of its operand size and a near return pops one, a far call and a far return two, and no other memory is implied.
+pub fn calls_and_returns_move_their_slots()
+    ensures { (code count : ℕ) (row : Row) → slice_get table code ≡ Some row → slots_of (name_of code) ≡ Some count
+        → IsTrue (are_slots count (implied_memory_of code)) }
+{}
+
+/// Arithmetic writes all six status flags, and ADC and SBB read CF; INC and DEC write all but CF; AND, OR, XOR and TEST clear OF and CF, write SF, ZF and PF and leave AF undefined;
+/// rotates write CF, and OF by 1; shifts write SF, ZF, PF and CF, and OF by 1, and leave AF undefined. A count of 0 keeps them.
+pub fn arithmetic_has_the_flags_of_its_page()
+    ensures read { (code : ℕ) (row : Row) (page : PageFlags) → slice_get table code ≡ Some row → page_flags (name_of code) row ≡ Some page
+        → flags_read code ≡ page.read }
+    ensures written { (code : ℕ) (row : Row) (page : PageFlags) → slice_get table code ≡ Some row → page_flags (name_of code) row ≡ Some page
+        → flags_written code ≡ page.written }
+    ensures cleared { (code : ℕ) (row : Row) (page : PageFlags) → slice_get table code ≡ Some row → page_flags (name_of code) row ≡ Some page
+        → flags_cleared code ≡ page.cleared }
+    ensures undefined { (code : ℕ) (row : Row) (page : PageFlags) → slice_get table code ≡ Some row → page_flags (name_of code) row ≡ Some page
+        → flags_undefined code ≡ page.undefined }
+    ensures kept { (code : ℕ) (row : Row) (page : PageFlags) → slice_get table code ≡ Some row → page_flags (name_of code) row ≡ Some page
+        → flags_kept code ≡ page.kept }
+{}
+
 /// A repeat prefix repeats the string instructions and no other row, and behind one the counter is the last of all registers.
 pub fn strings_repeat()
     ensures rows { (code : ℕ) (row : Row) → slice_get table code ≡ Some row → (effect_of code).repeats ≡ is_string_row row }
@@ -47,7 +68,7 @@ pub fn strings_repeat()
         → IsTrue (has_repeat i.rep) → (front : List RegisterUse) × (all_registers bits i ≡ front ++ counter bits i ∷ []) }
 {}
 
-/// No row of version 1 needs a feature of version 2: PCLMULQDQ, FMA, AES or F16C.
+/// No row of version 1 uses a feature of version 2: PCLMULQDQ, FMA, AES or F16C.
 pub fn features_have_their_versions()
     ensures { (code : ℕ) → code < VERSION1_ROWS → bit_and (features_of code) added_features ≡ 0 }
 {}

@@ -1,7 +1,7 @@
 //! What an instruction touches besides the operands that it names: registers and memory that are implied, flags, and the CPUID features that it
-//! needs (Intel SDM volume 2, chapters 3 to 5: the operation, the flags affected and the feature flag of each instruction).
+//! uses and needs (Intel SDM volume 2, chapters 3 to 5: the operation, the flags affected and the feature flag of each instruction).
 //!
-//! What the manual's pages say stands in crates/effect_entries/data, by name; docs/instruction-info.md says how it is read, and what was chosen.
+//! What the manual's pages say stands in crates/row_entries/data, by name; docs/instruction-info.md says how it is read, and what was chosen.
 #![tactic(auto)]
 
 mod effect;
@@ -17,7 +17,7 @@ pub use effect::{
     AccessKind, ImpliedMemory, ImpliedRegister, NamedMemory, RegisterGroup, SegmentRule,
     implied_memory, implied_registers, repeats, stated_access, stated_size,
 };
-pub use features::{Features, features_of, needed_features};
+pub use features::{Features, features_of, needed_features, used_features};
 pub use flags::{FlagSet, FlagUse, flags_of};
 pub use memory::{MemoryUse, all_memory};
 pub use registers::{RegisterUse, all_registers, full_register};

@@ -1,14 +1,17 @@
 //! The registers that an instruction touches.
 
-ghost use Rattle.std.specs.Prelude.{◌≡◌, ◌<◌, ◌≤◌, ◌+◌, ◌++◌, IsTrue, length};
+ghost use Rattle.std.specs.Prelude.{◌≡◌, ◌<◌, ◌≤◌, ◌+◌, ◌++◌, IsTrue, Some, length};
 ghost use Rattle.arrayvec.specs.ArrayVec.{array_vec_len};
 ghost use Rattle.opcode_rows.specs.Allowed.{is_well_formed};
 ghost use Rattle.instruction_info.specs.Registers as spec;
 
 use crate::effect::{AccessKind, ImpliedRegister, RegisterGroup, implied_registers};
+use crate::features::has_memory;
 use crate::memory::{MemoryUse, all_memory};
 use crate::setting::{Setting, done, general_register, register_in, setting_of};
 use arrayvec::ArrayVec;
+use instruction_parts::row_types::{Class, Map, Row, RowKind};
+use opcode_rows::{ROWS, row_of};
 use operand_info::laws::well_formed_codes_are_in_the_table;
 use operand_info::{Access, RegUse, used_registers};
 use x86_values::{Bits, Instr, Register, Segment};
@@ -50,22 +53,46 @@ pub fn full_register(reg: Register) -> Register
     }
 }
 
-/// The access that an operand has.
-fn operand_access(access: Access) -> AccessKind
-    ensures { result ≡ spec.operand_access access }
+/// Whether a row is that of MOVSS or MOVSD into a vector register: F3 0F 10 and F2 0F 10.
+#[inline]
+fn loads_scalar(row: &Row) -> bool
+    ensures { result ≡ spec.loads_scalar (Some row.now) }
+{
+    match (row.kind, row.map, row.class) {
+        (RowKind::Legacy, Map::M0f, Class::F3 | Class::F2) => row.opcode == 0x10,
+        _ => false,
+    }
+}
+
+/// Whether the form of an instruction replaces what the columns have as read and written: MOVSS and MOVSD from memory write 0 to the rest of their
+/// destination, which a move between registers keeps (Intel SDM volume 2, MOVSS and MOVSD).
+#[inline]
+#[tactic(auto, unfolding(crate::specs::Registers::replaces))]
+fn replaces(instr: &Instr) -> bool
+    requires { instr.now.code.0 < ROWS }
+    ensures { result ≡ spec.replaces instr.now }
+{
+    loads_scalar(&row_of(instr.code)) && has_memory(instr)
+}
+
+/// The access that an operand has, in a form that replaces its destination or keeps a part of it.
+#[inline]
+fn operand_access(replaced: bool, access: Access) -> AccessKind
+    ensures { result ≡ spec.operand_access replaced access }
 {
     match access {
         Access::None | Access::Read => AccessKind::Read,
         Access::Write => AccessKind::Write,
+        Access::ReadWrite if replaced => AccessKind::Write,
         Access::ReadWrite => AccessKind::ReadWrite,
     }
 }
 
 /// Appends registers that operands name.
 #[tactic(auto, unfolding(crate::specs::Registers::named_uses))]
-fn push_named(uses: &mut Uses, named: &[RegUse])
+fn push_named(uses: &mut Uses, replaced: bool, named: &[RegUse])
     requires { array_vec_len uses.old + length named.now ≤ 32 }
-    ensures items { uses.new.items ≡ uses.old.items ++ spec.named_uses named.now }
+    ensures items { uses.new.items ≡ uses.old.items ++ spec.named_uses replaced named.now }
     ensures room { array_vec_len uses.new ≤ array_vec_len uses.old + length named.now }
 {
     match named {
@@ -73,9 +100,9 @@ fn push_named(uses: &mut Uses, named: &[RegUse])
         [one, rest @ ..] => {
             uses.push(RegisterUse {
                 reg: one.reg,
-                access: operand_access(one.access),
+                access: operand_access(replaced, one.access),
             });
-            push_named(uses, rest)
+            push_named(uses, replaced, rest)
         }
     }
 }
@@ -187,7 +214,8 @@ fn push_counter(uses: &mut Uses, setting: Setting)
     }
 }
 
-/// The registers that a well-formed instruction touches in a mode: those that its operands name, as `used_registers` has them; the segment registers of
+/// The registers that a well-formed instruction touches in a mode: those that its operands name, as `used_registers` has them, but that MOVSS and
+/// MOVSD from memory write their destination and do not read it; the segment registers of
 /// the memory that `all_memory` has, of which in 64-bit mode FS and GS alone count; those that are implied; and the counter of a repeat prefix. A register
 /// that is touched in two ways is there twice. They are 32 at the most.
 #[tactic(auto, using(crate::proofs::FewUses::few_uses), unfolding(crate::specs::Registers::all_registers))]
@@ -200,7 +228,7 @@ pub fn all_registers(bits: Bits, instr: &Instr) -> ArrayVec<RegisterUse, 32>
     let named = used_registers(instr);
     let memory = all_memory(bits, instr);
     let mut uses = ArrayVec::new();
-    push_named(&mut uses, named.as_slice());
+    push_named(&mut uses, replaces(instr), named.as_slice());
     push_segments(&mut uses, bits, memory.as_slice());
     push_registers(&mut uses, setting, implied_registers(instr.code));
     push_counter(&mut uses, setting);

@@ -1,5 +1,8 @@
 //! What each module says of one instruction, and what is made of a few bytes.
 
+ghost use Rattle.std.specs.Prelude.{◌≤◌, length};
+ghost use Rattle.feddurzai.specs.Detours.{IsDetourAnswer};
+
 use feddurzai::decoding::{decode_in, read_items};
 use feddurzai::encoding::{NoSpelling, encode, encoded_len};
 use feddurzai::flow::{flow_graph_in, graph_of_code_from};
@@ -145,10 +148,22 @@ fn places_and_slots_are_made(rt: HostRuntime) -> Result<(), Fail> {
 /// `xor eax, eax`, `cmp eax, 5` and `ret`.
 const CODE: [u8; 6] = [0x31, 0xC0, 0x83, 0xF8, 0x05, 0xC3];
 
+/// The detour of some code at 1000 to 5000, whose trampoline stands at 2000.
+fn detour_to_5000(
+    alloc: Global,
+    bits: Bits,
+    code: &[u8],
+    start: StartTarget,
+) -> Result<Detour, DetourError>
+    requires { length code.now ≤ 1048576 }
+    ensures { IsDetourAnswer bits 0x1000 code.now 0x5000 0x2000 start result }
+{
+    detour(alloc, bits, 0x1000, code, 0x5000, 0x2000, start)
+}
+
 /// The detour of the code at 1000, whose trampoline stands at 2000.
 fn detour_of_code(alloc: Global) -> Result<Detour, DetourError> {
-    let start = StartTarget::Moved;
-    detour(alloc, Bits::B64, 0x1000, &CODE, 0x5000, 0x2000, start)
+    detour_to_5000(alloc, Bits::B64, &CODE, StartTarget::Moved)
 }
 
 /// The place of a hook of the code at 1000, and the bytes of the range of hooks.

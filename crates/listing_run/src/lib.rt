@@ -7,5 +7,6 @@ mod program;
 mod rows;
 pub mod sample_run;
 
+pub use decoder::DecodeError;
 pub use program::run;
 pub use sweep::run_parts::{Status, status_number};

@@ -2,6 +2,7 @@
 #![tactic(auto)]
 
 ghost use Rattle.std.specs.Prelude.{◌≡◌, ◌≤◌, ◌+◌, ◌++◌, IsTrue};
+ghost use Rattle.std.specs.Str.{IsAscii};
 ghost use Rattle.arrayvec.specs.ArrayVec.{array_vec_len};
 ghost use Rattle.opcode_rows.specs.Allowed.{is_well_formed};
 ghost use Rattle.masm_text.specs.Text as spec;
@@ -20,6 +21,7 @@ pub fn print_to<const N: usize>(out: &mut ArrayVec<u8, N>, bits: Bits, instr: &I
     requires room { array_vec_len out.old + TEXT_LEN ≤ N }
     ensures items { out.new.items ≡ out.old.items ++ spec.text bits instr.now }
     ensures len { array_vec_len out.new ≤ array_vec_len out.old + TEXT_LEN }
+    ensures ascii { IsAscii (spec.text bits instr.now) }
 {
     append_bracket_text(out, Style::Masm, bits, instr);
 }
@@ -27,7 +29,8 @@ pub fn print_to<const N: usize>(out: &mut ArrayVec<u8, N>, bits: Bits, instr: &I
 /// The text of a well-formed instruction in the style that MASM reads, in a mode: ASCII, at most `TEXT_LEN` bytes.
 pub fn print(bits: Bits, instr: &Instr) -> Text
     requires { IsTrue (is_well_formed instr.now) }
-    ensures { result.items ≡ spec.text bits instr.now }
+    ensures items { result.items ≡ spec.text bits instr.now }
+    ensures ascii { IsAscii result.items }
 {
     let mut text = Text::new();
     print_to(&mut text, bits, instr);

@@ -1,5 +1,5 @@
 -- Answers whose instruction was written where the caller asked.
-use Rattle.std.proofs.Common.{◌≡◌, ℕ, IfOk, Option, Some, None, Result, Ok, Err, subst}
+use Rattle.std.proofs.Common.{IfOk, Option, Some, None, Result, Ok, Err}
 use Rattle.std.specs.Prelude.{IfSome}
 use Rattle.x86_values.specs.declared.Decoded.{Decoded}
 use Rattle.modrm_sib.specs.Answer.{answer_in}

@@ -1,9 +1,8 @@
 //! The parts behind an opcode byte, and when they fit a row.
 
-ghost use Rattle.std.specs.Prelude.{◌≡◌, ◌≤◌, ◌<◌, true, false, IsTrue};
+ghost use Rattle.std.specs.Prelude.{◌≡◌, IsTrue};
 ghost use Rattle.modrm_sib.specs.Parts as spec;
 ghost use Rattle.row_fit.specs.Fits as fits;
-ghost use Rattle.instruction_parts.specs.declared.row_types.Row.{Row};
 
 use instruction_parts::row_types::Row;
 use instruction_parts::sizes::{is_vex_row, size_bytes, state_address_size};

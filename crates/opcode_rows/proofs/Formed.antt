@@ -1,7 +1,7 @@
 -- Where an instruction is well formed, by its code.
-use Rattle.std.proofs.Common.{◌≡◌, ◌≤◌, false, slice_get, arith, ap}
-use Rattle.std.specs.Prelude.{Some}
-use Rattle.std.proofs.lemmas.Option.{slice_get_past}
+use Rattle.std.proofs.Common.{◌≡◌, ◌<◌, ◌≤◌, true, false, Option, None, slice_get, arith, ap, refl}
+use Rattle.std.specs.Prelude.{Some, IsTrue}
+use Rattle.std.proofs.lemmas.Option.{slice_get_past, slice_get_within}
 use Rattle.x86_values.specs.declared.Instr.{Instr}
 use Rattle.instruction_parts.specs.declared.row_types.Row.{Row}
 use Rattle.opcode_rows.specs.declared.generated_spots.TheConstants.{ROWS}
@@ -18,3 +18,13 @@ well_formed-at i row at = ap (λ o. is_formed_by o i) at
 pub well_formed-past : (i : Instr) → ROWS ≤ i.code.0 → is_well_formed i ≡ false
 unfolding is_well_formed
 well_formed-past i le = ap (λ o. is_formed_by o i) (slice_get_past table i.code.0 (omega (arith, le, length-table)))
+
+row_there : (o : Option Row) (i : Instr) → is_formed_by o i ≡ true → (row : Row) × (o ≡ Some row)
+row_there None i h = cc
+row_there (Some row) i h = (row, refl)
+
+-- the code of a well-formed instruction is below the number of rows
+pub code_in_table : (i : Instr) → IsTrue (is_well_formed i) → i.code.0 < ROWS
+unfolding is_well_formed
+code_in_table i h =
+    let t = row_there (slice_get table i.code.0) i h in omega (arith, slice_get_within table i.code.0 t.0 t.1, length-table)

@@ -15,6 +15,7 @@ ghost use Rattle.row_relation.specs.Spells.{ReadsAs, Reading, Invalid, IsReading
 ghost use Rattle.version1_rows.specs.Table.{table as first_rows, names as first_names};
 ghost use Rattle.opcode_rows.specs.Table.{part_table, table, name_of, cell};
 ghost use Rattle.opcode_rows.specs.Order.{opcode_number, LiesAt, HasOneCode};
+ghost use Rattle.opcode_rows.specs.Allowed.{is_well_formed};
 ghost use Rattle.opcode_rows.specs.Kept.{opcodes_are_kept};
 ghost use Rattle.opcode_rows.specs.Words.{is_name, has_one_long_kind};
 ghost use Rattle.opcode_rows.specs.Versions.{version1, version1_names, is_added_cell, names_added_cell, AreOfOneVersion};
@@ -80,6 +81,12 @@ pub fn rows_have_one_long_operand()
 /// Each name has 1 to 16 bytes, each a lower-case letter or a digit.
 pub fn names_are_words()
     ensures { (code : ℕ) → code < ROWS → IsTrue (is_name (name_of code)) }
+{}
+
+/// The code of a well-formed instruction is one of the table.
+#[inline]
+pub fn well_formed_codes_are_in_the_table()
+    ensures { (i : Instr) → IsTrue (is_well_formed i) → i.code.0 < ROWS }
 {}
 
 /// The first `VERSION1_ROWS` rows and their names are those that version 1 had, as `version1_rows` keeps them.

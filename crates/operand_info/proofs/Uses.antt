@@ -1,16 +1,10 @@
 -- An operand names at most two registers.
-use Rattle.std.proofs.Common.{◌≡◌, ℕ, ◌<◌, ◌≤◌, true, refl, length, length-append, arith}
-use Rattle.std.specs.Prelude.{Option, None, Some, IsTrue, slice_get}
-use Rattle.std.proofs.lemmas.Option.{slice_get_within}
+use Rattle.std.proofs.Common.{ℕ, ◌≤◌, length, length-append, arith}
+use Rattle.std.specs.Prelude.{Option, None, Some}
 use Rattle.x86_values.specs.declared.Register.{Register}
 use Rattle.x86_values.specs.declared.Operand.{Operand}
 use Rattle.x86_values.specs.declared.Operand.TheVariants.{Absent, Reg, Mem as Memory, Imm, Near, Far}
 use Rattle.x86_values.specs.declared.Instr.{Instr}
-use Rattle.instruction_parts.specs.declared.row_types.Row.{Row}
-use Rattle.opcode_rows.specs.declared.generated_spots.TheConstants.{ROWS}
-use Rattle.opcode_rows.specs.Table.{table}
-use Rattle.opcode_rows.specs.Allowed.{is_formed_by, is_well_formed}
-use Rattle.opcode_rows.proofs.JoinFacts.{length-table}
 use Rattle.operand_info.specs.declared.columns.Access.{Access}
 use Rattle.operand_info.specs.declared.columns.Access.TheVariants.{None as NoAccess, Read, Write, ReadWrite}
 use Rattle.operand_info.specs.Operands.{operand_use, address_use, uses_of, uses_at}
@@ -39,14 +33,3 @@ uses_of-le (Far s o) access = omega arith
 pub uses_at-le : (i : Instr) (n : ℕ) → length (uses_at i n) ≤ 2
 unfolding uses_at
 uses_at-le i n = uses_of-le _ _
-
--- the code of a well-formed instruction is one of the table
-row_there : (o : Option Row) (i : Instr) → is_formed_by o i ≡ true → (row : Row) × (o ≡ Some row)
-row_there None i h = cc
-row_there (Some row) i h = (row, refl)
-
--- the code of a well-formed instruction is below the number of rows
-pub code_in_table : (i : Instr) → IsTrue (is_well_formed i) → i.code.0 < ROWS
-unfolding is_well_formed
-code_in_table i h =
-    let t = row_there (slice_get table i.code.0) i h in omega (arith, slice_get_within table i.code.0 t.0 t.1, length-table)

@@ -1,17 +1,16 @@
 //! What holds of the whole table.
 
 ghost use Rattle.std.specs.Prelude.{◌≡◌, ◌<◌, ℕ, slice_get, Some, IsTrue};
-ghost use Rattle.x86_values.specs.declared.Instr.{Instr};
 ghost use Rattle.instruction_parts.specs.declared.row_types.Row.{Row};
 ghost use Rattle.instruction_parts.specs.Kinds.{method_of};
 ghost use Rattle.row_fit.specs.Fits.{kind_at};
-ghost use Rattle.opcode_rows.specs.declared.generated_spots.TheConstants.{ROWS};
 ghost use Rattle.opcode_rows.specs.Table.{table};
-ghost use Rattle.opcode_rows.specs.Allowed.{is_well_formed};
 ghost use Rattle.operand_info.specs.declared.columns.Access.TheVariants.{Read};
 ghost use Rattle.operand_info.specs.Columns.{has_direct_target};
 ghost use Rattle.operand_info.specs.ByCode.{flow_of, access_of};
 ghost use Rattle.operand_info.specs.Laws.{is_constant, goes_to_operand};
+
+pub use opcode_rows::laws::well_formed_codes_are_in_the_table;
 
 /// Constants of an instruction are read, and never written.
 pub fn constants_are_read()
@@ -23,9 +22,4 @@ pub fn constants_are_read()
 pub fn direct_flows_hold_their_target()
     ensures { (code : ℕ) (row : Row) → slice_get table code ≡ Some row
         → has_direct_target row ≡ goes_to_operand (flow_of code) row }
-{}
-
-/// The code of a well-formed instruction is one of the table.
-pub fn well_formed_codes_are_in_the_table()
-    ensures { (i : Instr) → IsTrue (is_well_formed i) → i.code.0 < ROWS }
 {}

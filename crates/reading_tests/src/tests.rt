@@ -3,6 +3,7 @@
 mod compare;
 mod decoding_tests;
 mod encoding_tests;
+mod field_tests;
 mod front_tests;
 mod info_tests;
 mod notation_tests;
@@ -13,5 +14,6 @@ mod style_tests;
 mod table_tests;
 mod tail_tests;
 mod text_tests;
+mod touched_tests;
 mod value_tests;
 mod word_tests;

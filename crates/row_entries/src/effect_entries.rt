@@ -9,7 +9,7 @@ mod words;
 ghost use Rattle.std.specs.Prelude.{◌<◌, ◌≡◌};
 
 use anyhow::{Result, bail};
-use instruction_info::{features_of, needed_features};
+use instruction_info::{features_of, needed_features, used_features};
 use lines::{Line, line_in, meets};
 use opcode_rows::{ROWS, name, row_of};
 use std::fs;
@@ -73,16 +73,29 @@ fn sample(code: Code, with_memory: bool) -> Instr
     }
 }
 
-/// Compares words with the features that a row needs, in its form with memory and in that without.
+/// Whether a form of a row uses these features, and needs them, or none where it is a NOP without them.
+fn has_features(code: Code, with_memory: bool, features: u64, is_nop: bool) -> bool
+    requires { code.0 < ROWS }
+{
+    let instr = sample(code, with_memory);
+    let needed = if is_nop { 0 } else { features };
+    used_features(&instr).0 == features && needed_features(&instr).0 == needed
+}
+
+/// Compares words with the features that a row uses and needs, in its form with memory and in that without.
 fn compare_features(code: Code, words: &str) -> Result<()>
     requires { code.0 < ROWS }
 {
+    let (words, is_nop) = match words.strip_suffix(" nop") {
+        Some(words) => (words, true),
+        None => (words, false),
+    };
     let (all, register) = words.split_once(" register=").unwrap_or((words, words));
     match (features_in(all), features_in(register)) {
         (Some(all), Some(register))
             if all == features_of(code).0
-                && all == needed_features(&sample(code, true)).0
-                && register == needed_features(&sample(code, false)).0 => { Ok(()) }
+                && has_features(code, true, all, is_nop)
+                && has_features(code, false, register, is_nop) => { Ok(()) }
         _ => refuse(code, "other features", ""),
     }
 }

@@ -43,8 +43,8 @@ fn first_difference(rows: &[NamedRow], at: u16) -> Option<u16>
     }
 }
 
-/// Compares rows in the order of the table with its rows and names: Ok exactly where they are the table's, one by one. Else it gives the first code at
-/// which they differ.
+/// Compares rows, in the order of the table, with its rows and names. It is proved to return Ok exactly if there are as many rows as in the table and
+/// each is the row of its code, with its name. If they differ it returns a code at which they differ, the first one; no clause pins that number.
 pub fn compare(rows: &[NamedRow]) -> Result<(), u16>
     ensures { IsOk result ↔ AreRows (map view rows.now) }
 {

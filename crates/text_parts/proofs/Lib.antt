@@ -7,3 +7,6 @@ pub mod AddressBounds
 pub mod LayoutBounds
 pub mod Samples
 pub mod NumberLaws
+pub mod Ascii
+pub mod AddressAscii
+pub mod LayoutAscii

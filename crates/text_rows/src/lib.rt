@@ -4,6 +4,7 @@
 pub mod row_lines;
 
 ghost use Rattle.std.specs.Prelude.{◌≡◌, ◌≤◌, ◌+◌, ◌++◌, length, slice_get, Some, IsTrue};
+ghost use Rattle.std.specs.Str.{IsAscii};
 ghost use Rattle.arrayvec.specs.ArrayVec.{array_vec_len};
 ghost use Rattle.row_fit.specs.Sound.{sound};
 ghost use Rattle.opcode_rows.specs.Table.{table, name_of};
@@ -53,6 +54,7 @@ pub fn append_bracket_text<const N: usize>(
     requires room { array_vec_len out.old + TEXT_LEN ≤ N }
     ensures items { out.new.items ≡ out.old.items ++ bracket_text style bits instr.now }
     ensures len { array_vec_len out.new ≤ array_vec_len out.old + TEXT_LEN }
+    ensures ascii { IsAscii (bracket_text style bits instr.now) }
 {
     append_bracket_layout(
         out,

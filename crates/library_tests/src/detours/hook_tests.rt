@@ -1,13 +1,14 @@
 //! Hooks that are made, removed and made again, with the bytes of their range worked out from the manual, and what is refused.
 
 use crate::detours::compare::{are_bytes, same};
-use code_region::NotTaken;
-use detour::hook_slots::{Hook, HookCommand, HookReply, Hooks, InstallError, MakeError, replay};
-use detour::{DetourError, StartTarget};
+use feddurzai::hooks::{
+    DetourError, Hook, HookCommand, HookReply, Hooks, InstallError, MakeError, NotTaken,
+    StartTarget, replay,
+};
+use feddurzai::values::Bits;
 use std::alloc::Global;
 use std::process::Abort;
 use std::test::Fail;
-use x86_values::Bits;
 
 /// A function as hexadecimal digits at its address, and the replacement.
 #[derive(Clone, Copy)]

@@ -1,12 +1,12 @@
 //! Tables of functions, with the patch and the trampoline that each has, or why it has none.
 
 use crate::detours::compare::{are_bytes, same};
-use decoder::DecodeError;
-use detour::{Detour, DetourError, JumpForm, Parts, StartTarget, detour};
+use feddurzai::decoding::DecodeError;
+use feddurzai::hooks::{Detour, DetourError, JumpForm, Parts, StartTarget, detour};
+use feddurzai::values::Bits;
 use std::alloc::Global;
 use std::process::Abort;
 use std::test::Fail;
-use x86_values::Bits;
 
 /// A function as hexadecimal digits at its address, the replacement, and where the trampoline will stand.
 #[derive(Clone, Copy)]

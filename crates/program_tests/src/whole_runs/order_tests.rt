@@ -1,7 +1,6 @@
 use crate::whole_runs::compare::same;
 use crate::whole_runs::ports::{run_at_once, run_slowly};
-use decoder::DecodeError;
-use listing_run::Status;
+use listing_run::{DecodeError, Status};
 use std::str::from_utf8;
 use std::test::Fail;
 

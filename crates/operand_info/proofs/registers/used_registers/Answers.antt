@@ -1,5 +1,6 @@
 use Rattle.std.proofs.Common.{length-append, arith}
-use Rattle.operand_info.proofs.Uses.{uses_at-le, code_in_table}
+use Rattle.opcode_rows.proofs.Formed.{code_in_table}
+use Rattle.operand_info.proofs.Uses.{uses_at-le}
 use Rattle.operand_info.proofs.registers.used_registers.Goals as goal
 
 pub push_uses_at-requires-clause-code : goal.push_uses_at-requires-clause-code

@@ -1,6 +1,6 @@
 use Rattle.std.proofs.Common.{rules, sym, ◌∙◌}
 use denote.Enum.Bare.{same_true, true_same}
-use Rattle.instruction_parts.specs.RowTypes.contracts.OpKind.{the_type}
+use Rattle.instruction_parts.specs.contracts.row_types.OpKind.{the_type}
 use Rattle.row_entries.proofs.same.same_op.Goals as goal
 
 pub returns : goal.returns

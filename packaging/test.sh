@@ -1,0 +1,250 @@
+#!/bin/sh
+# Tries the packages of packaging/build.sh where nothing else is: in a fresh Debian system in a folder, with no kit and no compiler
+# but the one that this installs there. It needs root.
+#
+#   packaging/test.sh OUT
+#
+# There it lists the code of /bin/ls by the program, before any compiler is there; runs the Python package and its examples from the
+# wheel, in a venv without a network, and from the Debian package; compiles and runs the examples in C by pkg-config, with the shared
+# and with the static library; walks the stack at each instruction of the library, and in gdb from malloc to main; runs GDB's commands;
+# removes the packages and finds nothing left; and tries the folder of the .tar.gz.
+#
+# It wants mmdebstrap, unshare, chroot, objcopy and readelf, and a mirror of Debian. It reads of the environment:
+#
+#   SUITE                 the Debian release: bookworm where it is not set
+#   MIRROR                a mirror, where mmdebstrap's own is not to be taken
+#   MMDEBSTRAP_OPTIONS    more words for mmdebstrap, as --aptopt=FILE behind a proxy
+#   TMPDIR                where the system stands while this runs, some 900 MB: /tmp where it is not set
+#
+# It says what it tried, and ends at the first thing that is not as it should be, with status 1 and its output.
+set -eu
+export LC_ALL=C.UTF-8
+umask 022
+if [ "${1:-}" = --help ]; then
+    sed -n '2,/^set/s/^# \{0,1\}//p' "$0"
+    exit 0
+fi
+if [ $# -ne 1 ]; then
+    echo "usage: packaging/test.sh OUT    (--help says more)" >&2
+    exit 1
+fi
+here=$(cd "$(dirname "$0")" && pwd)
+capi=$here/../capi
+suite=${SUITE:-bookworm}
+
+say() { printf '%s\n' "$*"; }
+die() { say "test.sh: $*" >&2; exit 1; }
+
+[ "$(id -u)" -eq 0 ] || die "this needs root, for mmdebstrap and chroot; capi/test.sh tries what needs none"
+for tool in mmdebstrap unshare chroot objcopy readelf; do
+    command -v "$tool" >/dev/null || die "there is no $tool here: --help names what this wants"
+done
+[ -f "$1/SHA256SUMS" ] || die "there is no $1/SHA256SUMS: make the packages by packaging/build.sh $1"
+out=$(cd "$1" && pwd)
+(cd "$out" && sha256sum --quiet -c SHA256SUMS) || die "the files of $out are not those of its SHA256SUMS"
+version=$(sed -n '1s/^Feddurzai //p' "$out/PROVED")
+library=$(basename "$out"/libfeddurzai[0-9]*_*.deb "_${version}_amd64.deb")
+interface=${library#libfeddurzai}
+say "packages: version $version, $library, sums as in SHA256SUMS"
+
+work=$(mktemp -d "${TMPDIR:-/tmp}/feddurzai-test.XXXXXX")
+root=$work/root
+log=$work/log
+trap 'rm -rf --one-file-system "$work"' EXIT
+trap 'exit 1' INT TERM
+
+# mmdebstrap's own words go to the log
+# shellcheck disable=SC2086
+mmdebstrap --variant=apt ${MMDEBSTRAP_OPTIONS:-} "$suite" "$root" ${MIRROR:-} >"$log" 2>&1 || { tail -20 "$log" >&2; die "mmdebstrap made no system: MIRROR and MMDEBSTRAP_OPTIONS may help"; }
+[ -f "$root/etc/resolv.conf" ] || cp /etc/resolv.conf "$root/etc/" 2>/dev/null || true
+say "system: Debian $suite, $(find "$root/var/lib/dpkg/info" -name '*.list' | wc -l) packages"
+
+# run_in NAMESPACES WORDS..: in the system, with its own /proc, and nothing of this environment
+run_in() {
+    more=$1
+    shift
+    # shellcheck disable=SC2016,SC2086
+    unshare --mount --fork $more sh -c 'mount -t proc proc "$0/proc" && exec chroot "$0" "$@"' "$root" \
+        env -i PATH=/usr/sbin:/usr/bin:/sbin:/bin HOME=/root LC_ALL=C.UTF-8 DEBIAN_FRONTEND=noninteractive \
+        ${http_proxy:+"http_proxy=$http_proxy"} ${https_proxy:+"https_proxy=$https_proxy"} "$@"
+}
+# inside WHAT WORDS..: a step, which has to end with status 0; its output is in $log
+inside() {
+    what=$1
+    shift
+    run_in "" "$@" >"$log" 2>&1 || { tail -40 "$log" >&2; die "$what: status $? of: $*"; }
+}
+# alone WHAT WORDS..: the same without any network
+alone() {
+    what=$1
+    shift
+    run_in --net "$@" >"$log" 2>&1 || { tail -40 "$log" >&2; die "$what: status $? of: $*"; }
+}
+# says PATTERN WHAT: a line of the log is so
+says() {
+    grep -Eq -- "$1" "$log" || { tail -40 "$log" >&2; die "$2: no line is $1"; }
+}
+installs() { inside "apt-get install $*" apt-get install -y --no-install-recommends "$@"; }
+has_no() {
+    for tool in "$@"; do
+        if run_in "" sh -c "command -v $tool" >/dev/null 2>&1; then die "the system has $tool, which this did not install"; fi
+    done
+}
+
+mkdir "$root/packages" "$root/try"
+cp "$out"/*.deb "$out"/*.whl "$out"/*.tar.gz "$root/packages/"
+cp "$capi"/examples/*.py "$capi/tests/calls.py" "$capi/tests/unwind.c" "$root/try/"
+has_no rt rattle gcc cc clang tcc python3
+inside "apt-get update" apt-get update
+
+# ---- the program, with nothing else
+installs "/packages/feddurzai_${version}_amd64.deb"
+has_no gcc cc clang tcc python3
+ls=$(readlink -f "$root/bin/ls")
+objcopy -O binary --only-section=.text "$ls" "$root/try/ls.bin"
+at=$(readelf -W -S "$ls" | sed -n 's/^ *\[ *[0-9]*\] \.text *PROGBITS *0*\([0-9a-f]*\) .*/\1/p')
+if [ -z "$at" ] || [ ! -s "$root/try/ls.bin" ]; then die "/bin/ls of the system has no .text"; fi
+for style in intel att masm; do
+    # shellcheck disable=SC2016
+    inside "list in style $style" sh -c 'feddurzai list 64 "$0" "$1" </try/ls.bin >/try/ls."$1"' "$at" "$style"
+done
+[ "$(head -c 16 "$root/try/ls.intel")" = "$(printf '%016x' "0x$at")" ] || die "the list of /bin/ls does not begin at $at"
+grep -q ' ret$' "$root/try/ls.intel" || die "the list of /bin/ls has no ret"
+inside "version" feddurzai --version
+says "^feddurzai $version\$" "feddurzai --version"
+inside "a wrong word" sh -c 'feddurzai list 64 0 nasm </dev/null; test $? -eq 1'
+says '^usage: word 4$' "a wrong word"
+# shellcheck disable=SC2016
+inside "completion" bash -c 'source /usr/share/bash-completion/completions/feddurzai; COMP_WORDS=(feddurzai list 64 0 m); COMP_CWORD=4; _feddurzai; test "${COMPREPLY[*]}" = masm'
+inside "manual" sh -c 'gzip -t /usr/share/man/man1/feddurzai.1.gz'
+say "feddurzai: lists /bin/ls, $(wc -l <"$root/try/ls.intel") lines in each of three styles; no compiler and no Python is there"
+
+# ---- the wheel, without the Debian package and without a network
+installs python3 python3-venv python3-pyelftools
+alone "venv" python3 -m venv /try/venv
+alone "pip" sh -c '/try/venv/bin/pip install --no-index --disable-pip-version-check /packages/*.whl'
+# pyelftools is the system's
+mkdir "$root/try/elftools"
+ln -s /usr/lib/python3/dist-packages/elftools "$root/try/elftools/elftools"
+
+# tries_python PYTHON WHERE FOLDER: the package, from WHERE, and the examples of a folder
+tries_python() {
+    # shellcheck disable=SC2016
+    alone "import" "$1" -c 'import sys, feddurzai
+maps = {line.split()[-1] for line in open("/proc/self/maps") if "libfeddurzai" in line}
+print(feddurzai.__file__, *maps)
+sys.exit(not (feddurzai.__file__.startswith(sys.argv[1]) and len(maps) == 1 and maps.pop().startswith(sys.argv[2])))' "$2" "$4"
+    alone "calls.py" "$1" /try/calls.py
+    said=$(tail -1 "$log")
+    for style in intel att masm; do
+        # shellcheck disable=SC2016
+        alone "disassemble.py" sh -c '"$0" "$1/disassemble.py" /try/ls.bin 64 "$2" "$3" >/try/python."$3"' "$1" "$3" "$at" "$style"
+        cmp "$root/try/python.$style" "$root/try/ls.$style" || die "disassemble.py lists /bin/ls otherwise than the program"
+    done
+    # mov eax, edi; neg eax; cmovs eax, edi; ret
+    printf '\211\370\367\330\017\110\307\303' >"$root/try/abs.bin"
+    alone "liveness.py" "$1" "$3/liveness.py" /try/abs.bin 64 401000
+    says '^0000000000401002 +neg eax +OF SF ZF AF PF CF$' "liveness.py"
+    alone "inspector.py" env PYTHONPATH=/try/elftools "$1" "$3/inspector.py" /bin/ls .text
+    says ' call 0x' "inspector.py"
+}
+tries_python /try/venv/bin/python /try/venv/ /try /try/venv/
+say "wheel: pip takes it without a network; the examples run in a venv; $said"
+rm -r "$root/try/venv"
+
+# ---- the Debian package of Python
+installs "/packages/${library}_${version}_amd64.deb" "/packages/python3-feddurzai_${version}_all.deb"
+has_no gcc cc clang tcc
+tries_python /usr/bin/python3 /usr/lib/python3/dist-packages/ /usr/share/doc/python3-feddurzai/examples /usr/lib/x86_64-linux-gnu/
+say "python3-feddurzai: the examples run; $said"
+
+# ---- C
+installs gcc libc6-dev pkg-config gdb zlib1g-dev "/packages/libfeddurzai-dev_${version}_amd64.deb"
+mkdir "$root/try/c"
+cat >"$root/try/c/moves.c" <<'END_OF_SOURCE'
+#include <feddurzai.h>
+#include <stdio.h>
+int main(void)
+{
+    static const uint8_t code[] = {0x74, 0x10};
+    uint8_t out[64];
+    feddurzai_moved map[1];
+    feddurzai_move_report report;
+    int32_t len = feddurzai_move(64, 0x1000, code, sizeof code, 0x7fff00000000, out, sizeof out, map, 1, &report);
+    printf("%d bytes\n", (int)len);
+    return len != 16;
+}
+END_OF_SOURCE
+# compiles NAME SOURCE OUT shared|static: by pkg-config
+compiles() {
+    # shellcheck disable=SC2016
+    inside "gcc $1, $3" sh -c '
+        before= after=
+        [ "$2" = shared ] || { before=-Wl,-Bstatic; after=-Wl,-Bdynamic; }
+        gcc -std=gnu99 -O2 -g -Wall -Wextra -Werror $(pkg-config --cflags feddurzai) "$0" \
+            $before $(pkg-config --libs feddurzai) $after -ldl -o "$1"' "$1" "$2" "$3"
+    if [ "$3" = shared ]; then wanted=1; else wanted=0; fi
+    found=$(readelf -W -d "$root$2" | grep -c "NEEDED.*libfeddurzai.so.$interface\]" || true)
+    [ "$found" -eq "$wanted" ] || die "$2 is linked otherwise than by the $3 library"
+}
+for kind in shared static; do
+    for source in "$root"/usr/share/doc/libfeddurzai-dev/examples/*.c "$root/try/unwind.c" "$root/try/c/moves.c"; do
+        name=$(basename "$source" .c)
+        compiles "${source#"$root"}" "/try/c/$name" "$kind"
+    done
+    for style in intel att masm; do
+        # shellcheck disable=SC2016
+        inside "disassemble, $kind" sh -c '/try/c/disassemble /try/ls.bin 64 "$0" "$1" >/try/c."$1"' "$at" "$style"
+        cmp "$root/try/c.$style" "$root/try/ls.$style" || die "disassemble.c, $kind, lists /bin/ls otherwise than the program"
+    done
+    inside "hook, $kind" /try/c/hook
+    inside "hook_many, $kind" /try/c/hook_many
+    many=$(tail -1 "$log")
+    inside "step, $kind" /try/c/step
+    stepped=$(tail -1 "$log")
+    inside "unwind, $kind" /try/c/unwind
+    walked=$(tail -1 "$log")
+    # where malloc is called for the code that is moved
+    inside "gdb, $kind" gdb -nx -batch -ex 'break feddurzai_move' -ex run -ex 'break malloc' -ex continue -ex backtrace /try/c/moves
+    says '^#0 .* malloc ' "gdb, $kind: the breakpoint of malloc"
+    says '^#[1-9].* feddurzai_move ' "gdb, $kind: the backtrace"
+    says '^#[1-9][0-9]* .* main ' "gdb, $kind: the backtrace"
+    say "libfeddurzai-dev, $kind: disassemble.c lists as the program; hook.c; hook_many.c: $many; step.c: $stepped"
+    say "libfeddurzai-dev, $kind: $walked; gdb's backtrace goes from malloc by feddurzai_move to main"
+done
+
+# ---- GDB's commands
+inside "gdb" gdb -nx -batch -ex 'source /usr/share/feddurzai/gdb.py' -ex 'break main' -ex run -ex 'feddurzai-list' -ex 'feddurzai-flow main att' \
+    -ex 'set feddurzai-effects on' -ex stepi -ex 'feddurzai-list /2' /try/c/moves
+says '^=> 0x[0-9a-f]+ <main(\+[0-9]+)?>: ' "feddurzai-list"
+says '^block 0x[0-9a-f]+ <main' "feddurzai-flow"
+if grep -q Traceback "$log"; then tail -40 "$log" >&2; die "GDB's commands: an exception of Python"; fi
+say "gdb: feddurzai-list and feddurzai-flow in a process that it stopped"
+
+# ---- removed
+paths=$(run_in "" dpkg -L feddurzai "$library" libfeddurzai-dev python3-feddurzai | sort -u)
+inside "apt-get purge" apt-get purge -y feddurzai "$library" libfeddurzai-dev python3-feddurzai
+for path in $paths; do
+    if [ "$path" = /. ] || { [ ! -e "$root$path" ] && [ ! -L "$root$path" ]; }; then continue; fi
+    # a folder that other packages have too stays
+    if [ ! -d "$root$path" ] || ! run_in "" dpkg -S "$path" >/dev/null 2>&1; then die "$path is left behind"; fi
+done
+left=$(find "$root" -xdev \( -path "$root/packages" -o -path "$root/try" \) -prune -o -iname '*feddurzai*' -print)
+[ -z "$left" ] || die "left behind: $left"
+# shellcheck disable=SC2016
+inside "what is left" sh -c 'test -z "$(dpkg-query -W -f "\${Package}\n" | grep feddurzai)" && test -z "$(ldconfig -p | grep feddurzai)"'
+say "removed: of $(printf '%s\n' "$paths" | wc -l) paths nothing is left but folders of other packages"
+
+# ---- the folder
+inside "tar" tar -xzf "/packages/feddurzai-$version-x86_64-linux.tar.gz" -C /try
+tree=/try/feddurzai-$version-x86_64-linux
+# shellcheck disable=SC2016
+inside "the program of the folder" sh -c '"$0/bin/feddurzai" list 64 "$1" intel </try/ls.bin | cmp - /try/ls.intel' "$tree" "$at"
+# shellcheck disable=SC2016
+inside "the library of the folder" sh -c 'export PKG_CONFIG_PATH=$0/lib/pkgconfig
+    gcc -std=c99 -O2 $(pkg-config --cflags feddurzai) "$0/share/doc/feddurzai/examples/disassemble.c" $(pkg-config --libs feddurzai) -o /try/c/folder
+    LD_LIBRARY_PATH=$0/lib /try/c/folder /try/ls.bin 64 "$1" intel | cmp - /try/ls.intel' "$tree" "$at"
+# shellcheck disable=SC2016
+inside "the Python package of the folder" sh -c 'PYTHONPATH=$0/share/feddurzai/python python3 "$0/share/doc/feddurzai/examples/disassemble.py" /try/ls.bin 64 "$1" intel | cmp - /try/ls.intel' "$tree" "$at"
+say "folder: its program, a client in C by its feddurzai.pc, and its Python package list /bin/ls as the package's program did"
+say "all passed"
