@@ -98,7 +98,7 @@ fn memory_bytes(instr: &Instr) -> u8
 }
 
 /// What a well-formed instruction does.
-#[tactic(auto, using(operand_info::proofs::Uses::code_in_table, crate::proofs::FewUses::few_uses), unfolding(crate::specs::Info::flat_info))]
+#[tactic(auto, using(opcode_rows::proofs::Formed::code_in_table, crate::proofs::FewUses::few_uses), unfolding(crate::specs::Info::flat_info))]
 fn flat_info(instr: &Instr) -> FlatInfo
     requires { IsTrue (is_well_formed instr.now) }
     ensures { result ≡ spec.flat_info instr.now }
