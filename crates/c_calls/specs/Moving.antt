@@ -228,3 +228,11 @@ pub record IsMove (targets : Targets) (bits old : ℕ) (bytes : List ℕ) (new :
   pub bytes_are : out' ≡ bytes_left out (moved_within (length out) (length room) answer)
   pub entries_are : room' ≡ entries_left room (moved_within (length out) (length room) answer)
   pub report_is : report ≡ report_of answer
+
+-- a branch to a moved instruction follows it
+abbrev pub IsMoveFollowing : ℕ → ℕ → List ℕ → ℕ → List ℕ → List ℕ → List FlatMoved → List FlatMoved → FlatMove → ℤ → Type 0
+IsMoveFollowing bits old bytes new out out' map map' report answer = IsMove Follow bits old bytes new out out' map map' report answer
+
+-- a branch to a moved instruction goes to its old place
+abbrev pub IsMoveStaying : ℕ → ℕ → List ℕ → ℕ → List ℕ → List ℕ → List FlatMoved → List FlatMoved → FlatMove → ℤ → Type 0
+IsMoveStaying bits old bytes new out out' map map' report answer = IsMove Stay bits old bytes new out out' map map' report answer

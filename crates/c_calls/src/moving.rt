@@ -143,7 +143,7 @@ pub fn move_code(
     map: &mut [FlatMoved],
     report: &mut FlatMove,
 ) -> i32
-    ensures { spec.IsMove Targets.Follow bits old bytes.now new out.old out.new map.old map.new report.new result }
+    ensures { spec.IsMoveFollowing bits old bytes.now new out.old out.new map.old map.new report.new result }
 {
     move_by(
         alloc,
@@ -169,7 +169,7 @@ pub fn move_outside(
     map: &mut [FlatMoved],
     report: &mut FlatMove,
 ) -> i32
-    ensures { spec.IsMove Targets.Stay bits old bytes.now new out.old out.new map.old map.new report.new result }
+    ensures { spec.IsMoveStaying bits old bytes.now new out.old out.new map.old map.new report.new result }
 {
     move_by(
         alloc,

@@ -1,8 +1,7 @@
 //! Moving code.
 
 ghost use Rattle.c_calls.specs.Blocks.{IsBlocksMove};
-ghost use Rattle.c_calls.specs.Moving.{IsMove};
-ghost use Rattle.c_calls.specs.declared.moved.Targets.TheVariants.{Follow, Stay};
+ghost use Rattle.c_calls.specs.Moving.{IsMoveFollowing, IsMoveStaying};
 
 use c_calls::flat::{FlatBlock, FlatBlocks, FlatMove, FlatMoved, FlatPlace};
 use c_calls::{blocks, moving};
@@ -28,7 +27,7 @@ pub extern "C" fn feddurzai_move(
     map: &mut [FlatMoved],
     report: &mut FlatMove,
 ) -> i32
-    ensures { IsMove Follow bits old bytes.now new out.old out.new map.old map.new report.new result }
+    ensures { IsMoveFollowing bits old bytes.now new out.old out.new map.old map.new report.new result }
 {
     moving::move_code(alloc, bits, old, bytes, new, out, map, report)
 }
@@ -49,7 +48,7 @@ pub extern "C" fn feddurzai_move_outside(
     map: &mut [FlatMoved],
     report: &mut FlatMove,
 ) -> i32
-    ensures { IsMove Stay bits old bytes.now new out.old out.new map.old map.new report.new result }
+    ensures { IsMoveStaying bits old bytes.now new out.old out.new map.old map.new report.new result }
 {
     moving::move_outside(alloc, bits, old, bytes, new, out, map, report)
 }
