@@ -95,8 +95,9 @@ fn blocks_are_filled(rt: HostRuntime) {
     wrote(&rt, "too many", answer, &image, -6, FILLED);
     let answer = fill(&USED, &LIVE, 0x1014, &[0x90], &mut image);
     wrote(&rt, "not live", answer, &image, -27, FILLED);
-    let answer = fill(&USED, &LIVE, 0x1024, &[0x90], &mut image[..63]);
-    answers(&rt, "too short", answer, -6);
+    let mut short = [0xaa; 63];
+    let answer = fill(&USED, &LIVE, 0x1024, &[0x90], &mut short);
+    wrote(&rt, "too short", answer, &short, -6, &[0xaa; 63]);
 }
 
 /// Blocks of which one is not in units of 16: it begins 4 bytes behind the base, or has 5 bytes; and one over the other.
