@@ -93,7 +93,8 @@ enum {
     FEDDURZAI_ENDS = -21,           /* control ends within the overwritten bytes, and other code follows there */
     FEDDURZAI_ENTERED = -22,        /* control may enter the overwritten bytes after the first one */
     FEDDURZAI_BAD_BLOCK = -23,      /* a block is not inside the given bytes */
-    FEDDURZAI_BAD_REGION = -24,     /* the numbers describe no region, or its blocks are unordered or outside it */
+    FEDDURZAI_BAD_REGION = -24,     /* the numbers describe no region, or its blocks are unordered, outside it, or not in
+                                       units of 16 bytes */
     FEDDURZAI_EMPTY = -25,          /* 0 bytes were requested */
     FEDDURZAI_FULL = -26,           /* no gap of the region is long enough */
     FEDDURZAI_NOT_LIVE = -27        /* no live block starts at this address */
@@ -1040,9 +1041,9 @@ int32_t feddurzai_move_blocks(uint32_t bits, const uint8_t *bytes, size_t len, c
  * first `count` elements are the live blocks, in ascending order of address. `{base, size, 0}` is an empty region.
  *
  * The size is a multiple of 16 from 16 to 1048576. The array has 1 to 65536 elements. The region ends at 2^64 or
- * before. Each block has at least one byte, is inside the region, and overlaps no other. The functions check all of
- * this; if it does not hold, they return FEDDURZAI_BAD_REGION and change nothing. Each call takes time in proportion to
- * the number of live blocks.
+ * before. Each block starts a multiple of 16 bytes after the base and has a multiple of 16 bytes, at least 16; it is
+ * inside the region and overlaps no other. The functions check all of this; if it does not hold, they return
+ * FEDDURZAI_BAD_REGION and change nothing. Each call takes time in proportion to the number of live blocks.
  *
  *     feddurzai_region region = {0x10000, 4096, 0};
  *     feddurzai_live live[64];

@@ -416,7 +416,7 @@ def encodings_say_their_cause():
     cause(mov.replace(ops=[mov.ops[0], f.register("xmm1")]), f.Cause.REGISTER, 1, "operand 1: this register cannot be encoded here")
     lea = f.decode(64, 0, code("488d03"))
     cause(lea.replace(ops=[rax, f.Memory(rbx, f.register("rsp"), 4)]), f.Cause.MEMORY, 1, "operand 1: base, index and scale")
-    cause(lea.replace(ops=[rax, f.Memory(rbx, None, 1, 5, 16)]), f.Cause.DISPLACEMENT, 1, "operand 1: the address has no such displacement")
+    cause(lea.replace(ops=[rax, f.Memory(rbx, None, 1, 5, 16)]), f.Cause.DISPLACEMENT, 1, "operand 1: the address has no displacement of this width or value")
     add = f.decode(64, 0, code("83c005"))
     cause(add.replace(ops=[add.ops[0], f.Immediate(0x1234)]), f.Cause.IMMEDIATE, 1, "operand 1: the immediate does not fit its size")
     je = f.decode(64, 0, code("7410"))
