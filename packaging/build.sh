@@ -1,31 +1,31 @@
 #!/bin/sh
-# Makes the packages from proved builds, as OUT/:
+# Builds the packages in OUT from proved builds of the program and the libraries:
 #
 #   packaging/build.sh OUT
 #
 #   OUT/feddurzai_VERSION_amd64.deb             the program, its manual page, completion for bash
-#   OUT/libfeddurzaiN_VERSION_amd64.deb         the shared library; N is the number of its interface, as in its soname
+#   OUT/libfeddurzaiN_VERSION_amd64.deb         the shared library; N is its interface number, as in the soname
 #   OUT/libfeddurzai-dev_VERSION_amd64.deb      header, static library, feddurzai.pc, examples
 #   OUT/python3-feddurzai_VERSION_all.deb       the Python package, GDB's commands, examples
 #   OUT/feddurzai-VERSION-py3-none-manylinux_2_17_x86_64.manylinux2014_x86_64.whl
-#   OUT/feddurzai-VERSION-x86_64-linux.tar.gz   all of it below one folder
-#   OUT/PROVED                                  from which commit, by which kit and logic; the packages have it too
+#   OUT/feddurzai-VERSION-x86_64-linux.tar.gz   all of these files in one folder
+#   OUT/PROVED                                  the commit, the kit and the logic of the proofs; also in each package
 #   OUT/SHA256SUMS
 #
-# The program and the libraries are built by the kit's `rt` and by capi/build.sh. Where all is proved this takes a minute; what is not
-# is proved first, which takes an hour or more. Where these are set, nothing is built, and what stands there is taken:
+# The kit's `rt` builds the program, and capi/build.sh the libraries. In a proved clone this takes about a minute. In another clone
+# the proofs come first, which take an hour or more. These variables name existing builds, which are then packaged as they are:
 #
-#   FEDDURZAI_PROGRAM      the folder that has listing_program: crates/listing_program/out of a proved clone
-#   FEDDURZAI_LIBRARIES    the folder that has libfeddurzai.a and libfeddurzai.so: capi/out of a proved clone, by its capi/build.sh
-#   FEDDURZAI_COMMIT       the commit that they were built from, where these folders are in no clone
+#   FEDDURZAI_PROGRAM      the folder of listing_program: crates/listing_program/out of a proved clone
+#   FEDDURZAI_LIBRARIES    the folder of libfeddurzai.a and libfeddurzai.so: capi/out of a proved clone
+#   FEDDURZAI_COMMIT       the commit that they were built from, if these folders are not in a clone
 #
-# The crates of that commit have to be those of this clone's commit, and this clone has to be without changes: a package says which
-# commit it is of. The program and the libraries name the logic that they are proved in, which has to be that of `rt version`.
+# The crates of that commit must equal those of this clone's commit, and this clone must have no uncommitted changes, since each
+# package names its commit. The program and the libraries name the logic of their proofs; it must be that of `rt version`.
 #
-# From the same commit and the same proved builds the same bytes are made: all times are SOURCE_DATE_EPOCH, or that of the commit.
+# The same commit and the same builds give the same bytes: every time stamp is SOURCE_DATE_EPOCH, or the time of the commit.
 #
-# It wants git, the kit's `rt`, a C compiler ($CC, else gcc), binutils, python3, dpkg-deb and dpkg-shlibdeps (Debian: dpkg-dev);
-# lintian and man, which check the packages and the manual page, and auditwheel, where they are there. It needs no root.
+# Required: git, the kit's `rt`, a C compiler ($CC, or gcc), binutils, python3, dpkg-deb and dpkg-shlibdeps (Debian: dpkg-dev).
+# Used if installed: lintian and man, which check the packages and the manual page, and auditwheel. Root is not needed.
 set -eu
 export LC_ALL=C
 umask 022
@@ -34,110 +34,110 @@ if [ "${1:-}" = --help ]; then
     exit 0
 fi
 if [ $# -ne 1 ]; then
-    echo "usage: packaging/build.sh OUT    (--help says more)" >&2
+    echo "usage: packaging/build.sh OUT    (see --help)" >&2
     exit 1
 fi
 here=$(cd "$(dirname "$0")" && pwd)
 top=$(dirname "$here")
 cc=${CC:-gcc}
 multiarch=x86_64-linux-gnu
-# what the shared library needs of the C library at the most: the tag of the wheel says it, and check_wheel.py compares
+# The newest version of the C library that the shared library may need. It is in the tag of the wheel; check_wheel.py compares them.
 platform=manylinux_2_17_x86_64.manylinux2014_x86_64
 
 say() { printf '%s\n' "$*"; }
 die() { say "build.sh: $*" >&2; exit 1; }
 
 for tool in git rt "$cc" readelf strip python3 dpkg-deb dpkg-shlibdeps gzip tar sha256sum; do
-    command -v "$tool" >/dev/null || die "there is no $tool here: --help names what this wants"
+    command -v "$tool" >/dev/null || die "$tool is not installed: --help lists the required tools"
 done
 mkdir -p "$1"
 out=$(cd "$1" && pwd)
 work=$(mktemp -d)
 trap 'rm -rf "$work"' EXIT
 
-# ---- which commit
-git -C "$top" rev-parse --verify -q HEAD >/dev/null || die "$top is no clone: packages say of which commit they are"
-git -C "$top" diff --quiet HEAD -- crates crates.txt capi packaging || die "$top has changes that are not committed: commit them, or take a clean clone"
+# ---- the commit
+git -C "$top" rev-parse --verify -q HEAD >/dev/null || die "$top is not a git clone: packages name their commit"
+git -C "$top" diff --quiet HEAD -- crates crates.txt capi packaging || die "$top has uncommitted changes: commit them, or use a clean clone"
 commit=$(git -C "$top" rev-parse HEAD)
 crates=$(git -C "$top" rev-parse HEAD:crates)
 maintainer=$(git -C "$top" log -1 --format='%an <%ae>')
 SOURCE_DATE_EPOCH=${SOURCE_DATE_EPOCH:-$(git -C "$top" log -1 --format=%ct)}
 export SOURCE_DATE_EPOCH
 
-# comes_from FOLDER: that what stands there was built from the crates of this commit
+# comes_from FOLDER: checks that the files there were built from the crates of this commit
 comes_from() {
-    [ -d "$1" ] || die "there is no folder $1"
+    [ -d "$1" ] || die "no folder $1"
     of=${FEDDURZAI_COMMIT:-}
     if [ -z "$of" ]; then
-        of=$(git -C "$1" rev-parse --verify -q HEAD 2>/dev/null) || die "$1 is in no clone: name the commit that it was built from in FEDDURZAI_COMMIT"
-        git -C "$1" diff --quiet HEAD -- ":(top)crates" ":(top)crates.txt" || die "the clone of $1 has changes in its crates that are not committed"
+        of=$(git -C "$1" rev-parse --verify -q HEAD 2>/dev/null) || die "$1 is not in a clone: set FEDDURZAI_COMMIT to the commit that it was built from"
+        git -C "$1" diff --quiet HEAD -- ":(top)crates" ":(top)crates.txt" || die "the clone of $1 has uncommitted changes in its crates"
         theirs=$(git -C "$1" rev-parse "$of:crates")
     else
-        theirs=$(git -C "$top" rev-parse --verify -q "$of:crates") || die "FEDDURZAI_COMMIT: $of is no commit of $top"
+        theirs=$(git -C "$top" rev-parse --verify -q "$of:crates") || die "FEDDURZAI_COMMIT: $of is not a commit of $top"
     fi
-    [ "$theirs" = "$crates" ] || die "$1 was built from the crates of $of, which are others than those of $commit: prove and build those"
+    [ "$theirs" = "$crates" ] || die "$1 was built from the crates of $of, which differ from those of $commit: prove and build the latter"
 }
 
-# ---- what is packed
+# ---- the program and the libraries
 if [ -n "${FEDDURZAI_PROGRAM:-}" ]; then
     comes_from "$FEDDURZAI_PROGRAM"
     programs=$(cd "$FEDDURZAI_PROGRAM" && pwd)
 else
-    say "the program: rt proves what is not proved yet"
-    (cd "$top/crates/listing_program" && rt run -- --version) >"$work/program.log" 2>&1 || { tail -20 "$work/program.log" >&2; die "the program is not built"; }
+    say "building the program (rt proves crates that are not proved yet)"
+    (cd "$top/crates/listing_program" && rt run -- --version) >"$work/program.log" 2>&1 || { tail -20 "$work/program.log" >&2; die "the program was not built"; }
     programs=$top/crates/listing_program/out
 fi
 if [ -n "${FEDDURZAI_LIBRARIES:-}" ]; then
     comes_from "$FEDDURZAI_LIBRARIES"
     libraries=$(cd "$FEDDURZAI_LIBRARIES" && pwd)
 else
-    say "the libraries: rt proves what is not proved yet"
-    "$top/capi/build.sh" "$work/libraries" >/dev/null || die "the libraries are not built"
+    say "building the libraries (rt proves crates that are not proved yet)"
+    "$top/capi/build.sh" "$work/libraries" >/dev/null || die "the libraries were not built"
     libraries=$work/libraries
 fi
 program=$programs/listing_program
-[ -x "$program" ] || die "there is no program $program: make it by cd crates/listing_program && rt run -- --version"
+[ -x "$program" ] || die "no program $program: run 'rt run -- --version' in crates/listing_program"
 for file in libfeddurzai.a libfeddurzai.so; do
-    [ -f "$libraries/$file" ] || die "there is no $libraries/$file: make it by capi/build.sh"
+    [ -f "$libraries/$file" ] || die "no $libraries/$file: run capi/build.sh"
 done
 
-# the logic that each names, in its section .comment
+# logic_of FILE: the logic that its section .comment names
 logic_of() {
     readelf -W -p .comment "$1" 2>/dev/null | sed -n 's/^ *\[ *[0-9a-f]*\] *rattle logic=\([0-9a-f]*\).*/\1/p' | sort -u
 }
 kit=$(rt version)
 logic=$(logic_of "$program")
-[ -n "$logic" ] || die "$program names no logic: it is not built by the kit"
+[ -n "$logic" ] || die "$program names no logic: it was not built by the kit"
 mkdir "$work/objects"
 (cd "$work/objects" && ar x "$libraries/libfeddurzai.a")
 in_archive=$(for object in "$work"/objects/*; do logic_of "$object"; done | sort -u)
 case $logic in
     "${kit##* logic }"*) ;;
-    *) die "$program is proved in the logic '$logic', and this kit is $kit" ;;
+    *) die "$program was proved in the logic '$logic', but this kit is $kit" ;;
 esac
 if [ -z "$in_archive" ] && [ -f "$libraries/build.log" ]; then
-    # no object names one: then it is that of the proof, by which capi/build.sh made them
+    # No object names a logic: take that of the proof from which capi/build.sh built them.
     short=$(sed -n 's/^logic=proved .* sum=\([0-9a-f]*\) .*/\1/p' "$libraries/build.log" | tail -1)
     case $logic in
         "${short:-none}"*) in_archive=$logic ;;
     esac
 fi
-[ "$in_archive" = "$logic" ] || die "libfeddurzai.a is proved in the logic '${in_archive:-none}', and the program in '$logic'"
+[ "$in_archive" = "$logic" ] || die "libfeddurzai.a was proved in the logic '${in_archive:-none}', but the program in '$logic'"
 in_shared=$(logic_of "$libraries/libfeddurzai.so")
-[ "${in_shared:-$logic}" = "$logic" ] || die "libfeddurzai.so is proved in the logic '$in_shared', and the program in '$logic'"
+[ "${in_shared:-$logic}" = "$logic" ] || die "libfeddurzai.so was proved in the logic '$in_shared', but the program in '$logic'"
 calls=$(nm -D --defined-only "$libraries/libfeddurzai.so" | grep -c ' feddurzai_' || true)
-[ "$calls" -gt 0 ] || die "libfeddurzai.so has none of the calls: make it by this clone's capi/build.sh"
+[ "$calls" -gt 0 ] || die "libfeddurzai.so exports none of the calls: build it with capi/build.sh of this clone"
 frames=$(readelf --debug-dump=frames "$libraries/libfeddurzai.so" | grep -c ' FDE ' || true)
-[ "$frames" -ge "$calls" ] || die "libfeddurzai.so has unwind information for $frames functions, and $calls calls: make it by this clone's capi/build.sh"
+[ "$frames" -ge "$calls" ] || die "libfeddurzai.so has unwind information for $frames functions but exports $calls calls: build it with capi/build.sh of this clone"
 
 "$here/check_manual.py" "$program"
 
-# ---- the files of each package, as it is installed
+# ---- the files of each package, as installed
 root=$work/root
 DESTDIR=$root LIBDIR=lib/$multiarch "$top/capi/install.sh" /usr "$libraries" >"$work/install.log"
 version=$(sed -n 's/.*: feddurzai \([0-9.]*\), interface [0-9]*$/\1/p' "$work/install.log")
 interface=$(sed -n 's/.*, interface \([0-9]*\)$/\1/p' "$work/install.log")
-[ "$("$program" --version | sed -n 1p)" = "feddurzai $version" ] || die "the program is of another version than the library, $version"
+[ "$("$program" --version | sed -n 1p)" = "feddurzai $version" ] || die "the program and the library (version $version) have different versions"
 library=libfeddurzai$interface
 
 {
@@ -148,30 +148,30 @@ library=libfeddurzai$interface
     say "kit      ${kit%% logic *}"
     say "logic    $logic"
     say
-    say "The program and the library are compiled from crates that this kit proved in this logic. Behind the proofs come the kit's"
+    say "The program and the library are compiled from crates that this kit proved in this logic. The proofs do not cover the kit's"
     say "compiler and its few functions over the C library; the linker; unwind.py, which adds unwind information and changes no byte"
-    say "of code; and strip, which takes local symbols away. The header, the Python package and GDB's commands are tested and not"
+    say "of code; and strip, which removes local symbols. The header, the Python package and the GDB commands are tested but not"
     say "proved. docs/proofs.md in the sources says what is proved, what is only tested, and what is neither."
     say
-    say "As they were built, before strip:"
+    say "Checksums of the files as built, before strip:"
     (cd "$programs" && sha256sum listing_program)
     (cd "$libraries" && sha256sum libfeddurzai.a libfeddurzai.so)
 } >"$work/PROVED"
 cat >"$work/copyright" <<'END_OF_COPYRIGHT'
 Copyright: the authors of Feddurzai.
 
-No licence has been chosen for Feddurzai, and choosing one is its owner's. Until that is done nobody is given any right by this
-package beyond what the law gives without a licence.
+No licence has been chosen for Feddurzai; the choice is its owner's. Until then this package grants no rights beyond those that the
+law gives without a licence.
 END_OF_COPYRIGHT
 {
     say "feddurzai ($version) unstable; urgency=medium"
     say
-    say "  * Made from commit $commit."
+    say "  * Built from commit $commit."
     say
     say " -- $maintainer  $(git -C "$top" log -1 --format=%cD)"
 } >"$work/changelog"
 
-# package NAME: its folder, with what every package has
+# package NAME: makes its folder with the files that every package has
 package() {
     docs=$work/$1/usr/share/doc/$1
     mkdir -p "$work/$1/DEBIAN" "$docs"
@@ -179,7 +179,7 @@ package() {
     gzip -9nc "$work/changelog" >"$docs/changelog.gz"
 }
 
-# moves PACKAGE PATH..: files from the installed tree into a package
+# moves PACKAGE PATH..: moves files from the installed tree into a package
 moves() {
     to=$work/$1
     shift
@@ -234,7 +234,7 @@ END_OF_SCRIPT
 chmod 755 "$work/python3-feddurzai/DEBIAN/postinst" "$work/python3-feddurzai/DEBIAN/prerm"
 rm -r "$root/usr/share/feddurzai/python"
 left=$(find "$root" -type f -o -type l)
-[ -z "$left" ] || die "no package has what capi/install.sh installs: $left"
+[ -z "$left" ] || die "capi/install.sh installs files that no package has: $left"
 
 # ---- the wheel
 mkdir "$work/notes"
@@ -246,17 +246,17 @@ import backend
 print(backend.build_wheel(sys.argv[1], {"platform": sys.argv[2], "notes": sys.argv[3]}))
 ' "$work" "$platform" "$work/notes")
 "$here/check_wheel.py" "$work/$wheel"
-# what pip says that is installed, for the Debian package
+# the metadata of the wheel, so that pip lists the Debian package as installed
 info=feddurzai-$version.dist-info
 python3 -c 'import sys, zipfile; sys.stdout.buffer.write(zipfile.ZipFile(sys.argv[1]).read(sys.argv[2]))' "$work/$wheel" "$info/METADATA" >"$work/METADATA"
 install -D -m 644 -t "$modules/$info" "$work/METADATA"
 
-# ---- all of it below one folder
+# ---- all files in one folder
 name=feddurzai-$version-x86_64-linux
 tree=$work/tree/$name
 "$top/capi/install.sh" "$tree" "$libraries" >/dev/null
 strip --strip-unneeded "$tree/lib/libfeddurzai.so.$interface.$version"
-# wherever it is unpacked
+# the folder may be unpacked anywhere
 # shellcheck disable=SC2016
 sed -i 's,^prefix=.*,prefix=${pcfiledir}/../..,' "$tree/lib/pkgconfig/feddurzai.pc"
 install -D -m 755 -t "$tree/bin" "$work/feddurzai/usr/bin/feddurzai"
@@ -269,7 +269,7 @@ tar --sort=name --mtime="@$SOURCE_DATE_EPOCH" --owner=0 --group=0 --numeric-owne
 gzip -9n "$work/$name.tar"
 
 # ---- the Debian packages
-# needs FILE: on which packages a program or a library depends
+# needs FILE: the packages that a program or a library depends on
 needs() {
     mkdir -p "$work/shlibs/debian"
     printf 'Source: feddurzai\n\nPackage: feddurzai\nArchitecture: amd64\n' >"$work/shlibs/debian/control"
@@ -277,10 +277,10 @@ needs() {
     [ ! -s "$work/shlibs.log" ] || cat "$work/shlibs.log" >&2
 }
 
-# debian PACKAGE ARCHITECTURE SECTION DEPENDS: the fields of its description come from standard input
+# debian PACKAGE ARCHITECTURE SECTION DEPENDS: builds the package; standard input has the fields of its description
 debian() {
     folder=$work/$1
-    # as dpkg counts: each file in KiB, and one for each folder
+    # as dpkg counts: the KiB of each file, and 1 for each folder
     size=$(find "$folder" -path "$folder/DEBIAN" -prune -o -mindepth 1 -printf '%y %s\n' | awk '{ n += $1 == "f" ? int(($2 + 1023) / 1024) : 1 } END { print n }')
     {
         say "Package: $1"
@@ -300,39 +300,38 @@ debian() {
 }
 
 debian feddurzai amd64 devel "$(needs "$work/feddurzai/usr/bin/feddurzai")" <<'END_OF_FIELDS'
-Description: read, write, follow and move x86 machine code
- Feddurzai lists 16, 32 and 64-bit x86 code in three styles, says what its
- instructions do and what control reaches, assembles text, and moves code to
- other addresses. It is proved: its results are those of a definition that a
- person can read.
+Description: decode, encode, analyse and relocate x86 machine code
+ Feddurzai disassembles 16, 32 and 64-bit x86 code in three styles, shows the
+ effects of instructions and the control flow, assembles text, and relocates
+ code. The program is proved to write what its definitions state.
 END_OF_FIELDS
 debian "$library" amd64 libs "$(needs "$work/$library/$shared")" <<'END_OF_FIELDS'
 Multi-Arch: same
 Description: x86 decoder, encoder and relocator - shared library
- Feddurzai reads, writes, prints and moves the instructions of 16, 32 and
- 64-bit x86 code, and makes hooks. Each call is proved to do what its
- contract says for every value of its arguments.
+ Feddurzai decodes, encodes, prints and relocates 16, 32 and 64-bit x86 code,
+ and makes hooks. Each call is proved to meet its contract for all values of
+ its arguments.
 END_OF_FIELDS
 debian libfeddurzai-dev amd64 libdevel "$library (= $version), libc6-dev | libc-dev" <<'END_OF_FIELDS'
 Multi-Arch: same
 Description: x86 decoder, encoder and relocator - files for development
- Feddurzai reads, writes, prints and moves the instructions of 16, 32 and
- 64-bit x86 code, and makes hooks.
+ Feddurzai decodes, encodes, prints and relocates 16, 32 and 64-bit x86 code,
+ and makes hooks.
  .
- This package has the header for C and C++, the static library, the file for
- pkg-config, and examples.
+ This package contains the header for C and C++, the static library, the
+ pkg-config file, and examples.
 END_OF_FIELDS
 debian python3-feddurzai all python "python3:any, $library (>= $version)" <<'END_OF_FIELDS'
 Suggests: gdb, python3-pyelftools
 Description: x86 decoder, encoder and relocator - Python package
- Feddurzai reads, writes, prints and moves the instructions of 16, 32 and
- 64-bit x86 code, and makes hooks.
+ Feddurzai decodes, encodes, prints and relocates 16, 32 and 64-bit x86 code,
+ and makes hooks.
  .
- This package has the package for Python 3, commands for GDB
+ This package contains the Python 3 package, commands for GDB
  (/usr/share/feddurzai/gdb.py), and examples.
 END_OF_FIELDS
 
-# ---- what is given out
+# ---- the checks and the output
 if command -v lintian >/dev/null; then
     as_root=
     [ "$(id -u)" -ne 0 ] || as_root=--allow-root
@@ -340,7 +339,7 @@ if command -v lintian >/dev/null; then
     lintian $as_root --fail-on error --tag-display-limit 0 "$work"/*.deb || die "lintian has errors"
     say "lintian: no errors"
 else
-    say "lintian: it is not here, and the packages are not checked by it"
+    say "lintian is not installed: the packages were not checked with it"
 fi
 rm -f "$out"/*.deb "$out"/*.whl "$out"/*.tar.gz "$out/PROVED" "$out/SHA256SUMS"
 cp "$work"/*.deb "$work/$wheel" "$work/$name.tar.gz" "$work/PROVED" "$out/"

@@ -1,22 +1,22 @@
 #!/bin/sh
-# Tries the packages of packaging/build.sh where nothing else is: in a fresh Debian system in a folder, with no kit and no compiler
-# but the one that this installs there. It needs root.
+# Tests the packages of packaging/build.sh in a fresh Debian system in a folder, without the kit, and without a compiler until this
+# script installs one there. Root is needed.
 #
 #   packaging/test.sh OUT
 #
-# There it lists the code of /bin/ls by the program, before any compiler is there; runs the Python package and its examples from the
-# wheel, in a venv without a network, and from the Debian package; compiles and runs the examples in C by pkg-config, with the shared
-# and with the static library; walks the stack at each instruction of the library, and in gdb from malloc to main; runs GDB's commands;
-# removes the packages and finds nothing left; and tries the folder of the .tar.gz.
+# The steps: list the code of /bin/ls with the program, before a compiler is installed; run the Python package and its examples from
+# the wheel, in a venv without a network, and from the Debian package; compile the C examples with pkg-config and run them, with the
+# shared library and with the static one; walk the stack at each instruction of the library, and in gdb from malloc to main; run the
+# GDB commands; remove the packages and check that no file is left; run the program and the libraries of the .tar.gz.
 #
-# It wants mmdebstrap, unshare, chroot, objcopy and readelf, and a mirror of Debian. It reads of the environment:
+# Required: mmdebstrap, unshare, chroot, objcopy, readelf, and a Debian mirror. Variables of the environment:
 #
-#   SUITE                 the Debian release: bookworm where it is not set
-#   MIRROR                a mirror, where mmdebstrap's own is not to be taken
-#   MMDEBSTRAP_OPTIONS    more words for mmdebstrap, as --aptopt=FILE behind a proxy
-#   TMPDIR                where the system stands while this runs, some 900 MB: /tmp where it is not set
+#   SUITE                 the Debian release; the default is bookworm
+#   MIRROR                a mirror; the default is that of mmdebstrap
+#   MMDEBSTRAP_OPTIONS    more options for mmdebstrap, such as --aptopt=FILE behind a proxy
+#   TMPDIR                the folder for the system, which takes some 900 MB; the default is /tmp
 #
-# It says what it tried, and ends at the first thing that is not as it should be, with status 1 and its output.
+# Each step prints what it checked. The first failure is printed with the output of its command, and the status is then 1.
 set -eu
 export LC_ALL=C.UTF-8
 umask 022
@@ -25,7 +25,7 @@ if [ "${1:-}" = --help ]; then
     exit 0
 fi
 if [ $# -ne 1 ]; then
-    echo "usage: packaging/test.sh OUT    (--help says more)" >&2
+    echo "usage: packaging/test.sh OUT    (see --help)" >&2
     exit 1
 fi
 here=$(cd "$(dirname "$0")" && pwd)
@@ -35,17 +35,17 @@ suite=${SUITE:-bookworm}
 say() { printf '%s\n' "$*"; }
 die() { say "test.sh: $*" >&2; exit 1; }
 
-[ "$(id -u)" -eq 0 ] || die "this needs root, for mmdebstrap and chroot; capi/test.sh tries what needs none"
+[ "$(id -u)" -eq 0 ] || die "root is needed for mmdebstrap and chroot; capi/test.sh has the tests that need no root"
 for tool in mmdebstrap unshare chroot objcopy readelf; do
-    command -v "$tool" >/dev/null || die "there is no $tool here: --help names what this wants"
+    command -v "$tool" >/dev/null || die "$tool is not installed: --help lists the required tools"
 done
-[ -f "$1/SHA256SUMS" ] || die "there is no $1/SHA256SUMS: make the packages by packaging/build.sh $1"
+[ -f "$1/SHA256SUMS" ] || die "no $1/SHA256SUMS: build the packages with packaging/build.sh $1"
 out=$(cd "$1" && pwd)
-(cd "$out" && sha256sum --quiet -c SHA256SUMS) || die "the files of $out are not those of its SHA256SUMS"
+(cd "$out" && sha256sum --quiet -c SHA256SUMS) || die "the files of $out do not match its SHA256SUMS"
 version=$(sed -n '1s/^Feddurzai //p' "$out/PROVED")
 library=$(basename "$out"/libfeddurzai[0-9]*_*.deb "_${version}_amd64.deb")
 interface=${library#libfeddurzai}
-say "packages: version $version, $library, sums as in SHA256SUMS"
+say "packages: version $version, $library, checksums correct"
 
 work=$(mktemp -d "${TMPDIR:-/tmp}/feddurzai-test.XXXXXX")
 root=$work/root
@@ -53,13 +53,13 @@ log=$work/log
 trap 'rm -rf --one-file-system "$work"' EXIT
 trap 'exit 1' INT TERM
 
-# mmdebstrap's own words go to the log
+# the output of mmdebstrap goes to the log
 # shellcheck disable=SC2086
-mmdebstrap --variant=apt ${MMDEBSTRAP_OPTIONS:-} "$suite" "$root" ${MIRROR:-} >"$log" 2>&1 || { tail -20 "$log" >&2; die "mmdebstrap made no system: MIRROR and MMDEBSTRAP_OPTIONS may help"; }
+mmdebstrap --variant=apt ${MMDEBSTRAP_OPTIONS:-} "$suite" "$root" ${MIRROR:-} >"$log" 2>&1 || { tail -20 "$log" >&2; die "mmdebstrap failed: MIRROR and MMDEBSTRAP_OPTIONS may help"; }
 [ -f "$root/etc/resolv.conf" ] || cp /etc/resolv.conf "$root/etc/" 2>/dev/null || true
 say "system: Debian $suite, $(find "$root/var/lib/dpkg/info" -name '*.list' | wc -l) packages"
 
-# run_in NAMESPACES WORDS..: in the system, with its own /proc, and nothing of this environment
+# run_in NAMESPACES WORDS..: runs a command in the system, with its own /proc and a clean environment
 run_in() {
     more=$1
     shift
@@ -68,26 +68,26 @@ run_in() {
         env -i PATH=/usr/sbin:/usr/bin:/sbin:/bin HOME=/root LC_ALL=C.UTF-8 DEBIAN_FRONTEND=noninteractive \
         ${http_proxy:+"http_proxy=$http_proxy"} ${https_proxy:+"https_proxy=$https_proxy"} "$@"
 }
-# inside WHAT WORDS..: a step, which has to end with status 0; its output is in $log
+# inside WHAT WORDS..: runs a command that must succeed; its output goes to $log
 inside() {
     what=$1
     shift
     run_in "" "$@" >"$log" 2>&1 || { tail -40 "$log" >&2; die "$what: status $? of: $*"; }
 }
-# alone WHAT WORDS..: the same without any network
+# alone WHAT WORDS..: runs it without a network
 alone() {
     what=$1
     shift
     run_in --net "$@" >"$log" 2>&1 || { tail -40 "$log" >&2; die "$what: status $? of: $*"; }
 }
-# says PATTERN WHAT: a line of the log is so
+# says PATTERN WHAT: checks that a line of the log matches
 says() {
-    grep -Eq -- "$1" "$log" || { tail -40 "$log" >&2; die "$2: no line is $1"; }
+    grep -Eq -- "$1" "$log" || { tail -40 "$log" >&2; die "$2: no line matches $1"; }
 }
 installs() { inside "apt-get install $*" apt-get install -y --no-install-recommends "$@"; }
 has_no() {
     for tool in "$@"; do
-        if run_in "" sh -c "command -v $tool" >/dev/null 2>&1; then die "the system has $tool, which this did not install"; fi
+        if run_in "" sh -c "command -v $tool" >/dev/null 2>&1; then die "the system has $tool, which this script did not install"; fi
     done
 }
 
@@ -97,7 +97,7 @@ cp "$capi"/examples/*.py "$capi/tests/calls.py" "$capi/tests/unwind.c" "$root/tr
 has_no rt rattle gcc cc clang tcc python3
 inside "apt-get update" apt-get update
 
-# ---- the program, with nothing else
+# ---- the program alone
 installs "/packages/feddurzai_${version}_amd64.deb"
 has_no gcc cc clang tcc python3
 ls=$(readlink -f "$root/bin/ls")
@@ -108,8 +108,8 @@ for style in intel att masm; do
     # shellcheck disable=SC2016
     inside "list in style $style" sh -c 'feddurzai list 64 "$0" "$1" </try/ls.bin >/try/ls."$1"' "$at" "$style"
 done
-[ "$(head -c 16 "$root/try/ls.intel")" = "$(printf '%016x' "0x$at")" ] || die "the list of /bin/ls does not begin at $at"
-grep -q ' ret$' "$root/try/ls.intel" || die "the list of /bin/ls has no ret"
+[ "$(head -c 16 "$root/try/ls.intel")" = "$(printf '%016x' "0x$at")" ] || die "the listing of /bin/ls does not start at $at"
+grep -q ' ret$' "$root/try/ls.intel" || die "the listing of /bin/ls has no ret"
 inside "version" feddurzai --version
 says "^feddurzai $version\$" "feddurzai --version"
 inside "a wrong word" sh -c 'feddurzai list 64 0 nasm </dev/null; test $? -eq 1'
@@ -117,17 +117,17 @@ says '^usage: word 4$' "a wrong word"
 # shellcheck disable=SC2016
 inside "completion" bash -c 'source /usr/share/bash-completion/completions/feddurzai; COMP_WORDS=(feddurzai list 64 0 m); COMP_CWORD=4; _feddurzai; test "${COMPREPLY[*]}" = masm'
 inside "manual" sh -c 'gzip -t /usr/share/man/man1/feddurzai.1.gz'
-say "feddurzai: lists /bin/ls, $(wc -l <"$root/try/ls.intel") lines in each of three styles; no compiler and no Python is there"
+say "feddurzai: listed /bin/ls, $(wc -l <"$root/try/ls.intel") lines in each of three styles, without a compiler and without Python"
 
 # ---- the wheel, without the Debian package and without a network
 installs python3 python3-venv python3-pyelftools
 alone "venv" python3 -m venv /try/venv
 alone "pip" sh -c '/try/venv/bin/pip install --no-index --disable-pip-version-check /packages/*.whl'
-# pyelftools is the system's
+# pyelftools comes from Debian
 mkdir "$root/try/elftools"
 ln -s /usr/lib/python3/dist-packages/elftools "$root/try/elftools/elftools"
 
-# tries_python PYTHON WHERE FOLDER: the package, from WHERE, and the examples of a folder
+# tries_python PYTHON WHERE FOLDER LIBRARY: tests the package in WHERE, its library in LIBRARY, and the examples of a folder
 tries_python() {
     # shellcheck disable=SC2016
     alone "import" "$1" -c 'import sys, feddurzai
@@ -139,7 +139,7 @@ sys.exit(not (feddurzai.__file__.startswith(sys.argv[1]) and len(maps) == 1 and 
     for style in intel att masm; do
         # shellcheck disable=SC2016
         alone "disassemble.py" sh -c '"$0" "$1/disassemble.py" /try/ls.bin 64 "$2" "$3" >/try/python."$3"' "$1" "$3" "$at" "$style"
-        cmp "$root/try/python.$style" "$root/try/ls.$style" || die "disassemble.py lists /bin/ls otherwise than the program"
+        cmp "$root/try/python.$style" "$root/try/ls.$style" || die "disassemble.py and the program list /bin/ls differently"
     done
     # mov eax, edi; neg eax; cmovs eax, edi; ret
     printf '\211\370\367\330\017\110\307\303' >"$root/try/abs.bin"
@@ -149,14 +149,14 @@ sys.exit(not (feddurzai.__file__.startswith(sys.argv[1]) and len(maps) == 1 and 
     says ' call 0x' "inspector.py"
 }
 tries_python /try/venv/bin/python /try/venv/ /try /try/venv/
-say "wheel: pip takes it without a network; the examples run in a venv; $said"
+say "wheel: pip installed it without a network; the examples ran in a venv; $said"
 rm -r "$root/try/venv"
 
 # ---- the Debian package of Python
 installs "/packages/${library}_${version}_amd64.deb" "/packages/python3-feddurzai_${version}_all.deb"
 has_no gcc cc clang tcc
 tries_python /usr/bin/python3 /usr/lib/python3/dist-packages/ /usr/share/doc/python3-feddurzai/examples /usr/lib/x86_64-linux-gnu/
-say "python3-feddurzai: the examples run; $said"
+say "python3-feddurzai: the examples ran; $said"
 
 # ---- C
 installs gcc libc6-dev pkg-config gdb zlib1g-dev "/packages/libfeddurzai-dev_${version}_amd64.deb"
@@ -175,7 +175,7 @@ int main(void)
     return len != 16;
 }
 END_OF_SOURCE
-# compiles NAME SOURCE OUT shared|static: by pkg-config
+# compiles SOURCE OUT shared|static: compiles with the flags of pkg-config
 compiles() {
     # shellcheck disable=SC2016
     inside "gcc $1, $3" sh -c '
@@ -185,7 +185,7 @@ compiles() {
             $before $(pkg-config --libs feddurzai) $after -ldl -o "$1"' "$1" "$2" "$3"
     if [ "$3" = shared ]; then wanted=1; else wanted=0; fi
     found=$(readelf -W -d "$root$2" | grep -c "NEEDED.*libfeddurzai.so.$interface\]" || true)
-    [ "$found" -eq "$wanted" ] || die "$2 is linked otherwise than by the $3 library"
+    [ "$found" -eq "$wanted" ] || die "$2 is not linked with the $3 library"
 }
 for kind in shared static; do
     for source in "$root"/usr/share/doc/libfeddurzai-dev/examples/*.c "$root/try/unwind.c" "$root/try/c/moves.c"; do
@@ -195,7 +195,7 @@ for kind in shared static; do
     for style in intel att masm; do
         # shellcheck disable=SC2016
         inside "disassemble, $kind" sh -c '/try/c/disassemble /try/ls.bin 64 "$0" "$1" >/try/c."$1"' "$at" "$style"
-        cmp "$root/try/c.$style" "$root/try/ls.$style" || die "disassemble.c, $kind, lists /bin/ls otherwise than the program"
+        cmp "$root/try/c.$style" "$root/try/ls.$style" || die "disassemble.c, $kind, and the program list /bin/ls differently"
     done
     inside "hook, $kind" /try/c/hook
     inside "hook_many, $kind" /try/c/hook_many
@@ -204,13 +204,13 @@ for kind in shared static; do
     stepped=$(tail -1 "$log")
     inside "unwind, $kind" /try/c/unwind
     walked=$(tail -1 "$log")
-    # where malloc is called for the code that is moved
+    # the backtrace from the malloc call within feddurzai_move
     inside "gdb, $kind" gdb -nx -batch -ex 'break feddurzai_move' -ex run -ex 'break malloc' -ex continue -ex backtrace /try/c/moves
     says '^#0 .* malloc ' "gdb, $kind: the breakpoint of malloc"
     says '^#[1-9].* feddurzai_move ' "gdb, $kind: the backtrace"
     says '^#[1-9][0-9]* .* main ' "gdb, $kind: the backtrace"
-    say "libfeddurzai-dev, $kind: disassemble.c lists as the program; hook.c; hook_many.c: $many; step.c: $stepped"
-    say "libfeddurzai-dev, $kind: $walked; gdb's backtrace goes from malloc by feddurzai_move to main"
+    say "libfeddurzai-dev, $kind: disassemble.c lists like the program; hook.c ran; hook_many.c: $many; step.c: $stepped"
+    say "libfeddurzai-dev, $kind: $walked; the backtrace of gdb goes from malloc through feddurzai_move to main"
 done
 
 # ---- GDB's commands
@@ -218,22 +218,22 @@ inside "gdb" gdb -nx -batch -ex 'source /usr/share/feddurzai/gdb.py' -ex 'break 
     -ex 'set feddurzai-effects on' -ex stepi -ex 'feddurzai-list /2' /try/c/moves
 says '^=> 0x[0-9a-f]+ <main(\+[0-9]+)?>: ' "feddurzai-list"
 says '^block 0x[0-9a-f]+ <main' "feddurzai-flow"
-if grep -q Traceback "$log"; then tail -40 "$log" >&2; die "GDB's commands: an exception of Python"; fi
-say "gdb: feddurzai-list and feddurzai-flow in a process that it stopped"
+if grep -q Traceback "$log"; then tail -40 "$log" >&2; die "the GDB commands raised a Python exception"; fi
+say "gdb: feddurzai-list and feddurzai-flow ran in a stopped process"
 
 # ---- removed
 paths=$(run_in "" dpkg -L feddurzai "$library" libfeddurzai-dev python3-feddurzai | sort -u)
 inside "apt-get purge" apt-get purge -y feddurzai "$library" libfeddurzai-dev python3-feddurzai
 for path in $paths; do
     if [ "$path" = /. ] || { [ ! -e "$root$path" ] && [ ! -L "$root$path" ]; }; then continue; fi
-    # a folder that other packages have too stays
-    if [ ! -d "$root$path" ] || ! run_in "" dpkg -S "$path" >/dev/null 2>&1; then die "$path is left behind"; fi
+    # a folder that another package also has remains
+    if [ ! -d "$root$path" ] || ! run_in "" dpkg -S "$path" >/dev/null 2>&1; then die "$path remains after the removal"; fi
 done
 left=$(find "$root" -xdev \( -path "$root/packages" -o -path "$root/try" \) -prune -o -iname '*feddurzai*' -print)
-[ -z "$left" ] || die "left behind: $left"
+[ -z "$left" ] || die "these files remain after the removal: $left"
 # shellcheck disable=SC2016
 inside "what is left" sh -c 'test -z "$(dpkg-query -W -f "\${Package}\n" | grep feddurzai)" && test -z "$(ldconfig -p | grep feddurzai)"'
-say "removed: of $(printf '%s\n' "$paths" | wc -l) paths nothing is left but folders of other packages"
+say "removed: of $(printf '%s\n' "$paths" | wc -l) paths only folders of other packages remain"
 
 # ---- the folder
 inside "tar" tar -xzf "/packages/feddurzai-$version-x86_64-linux.tar.gz" -C /try
@@ -246,5 +246,5 @@ inside "the library of the folder" sh -c 'export PKG_CONFIG_PATH=$0/lib/pkgconfi
     LD_LIBRARY_PATH=$0/lib /try/c/folder /try/ls.bin 64 "$1" intel | cmp - /try/ls.intel' "$tree" "$at"
 # shellcheck disable=SC2016
 inside "the Python package of the folder" sh -c 'PYTHONPATH=$0/share/feddurzai/python python3 "$0/share/doc/feddurzai/examples/disassemble.py" /try/ls.bin 64 "$1" intel | cmp - /try/ls.intel' "$tree" "$at"
-say "folder: its program, a client in C by its feddurzai.pc, and its Python package list /bin/ls as the package's program did"
+say "folder: its program, a C client built with its feddurzai.pc, and its Python package list /bin/ls like the packaged program"
 say "all passed"
