@@ -1,14 +1,14 @@
 #!/bin/sh
-# Builds the library for C: FOLDER/libfeddurzai.a and FOLDER/libfeddurzai.so, from the proved crate feddurzai_c.
+# Builds the C library from the proved crate feddurzai_c: FOLDER/libfeddurzai.a and FOLDER/libfeddurzai.so.
 #
 #   capi/build.sh [FOLDER] [llvm|rattle]
 #
-# FOLDER is capi/out where none is named. `llvm` (the one by default) and `rattle` are the kit's two compilers. The crates are
-# proved first, as far as no earlier check has: `rt all check --jobs 4` does that on all processors. It wants the kit's `rt`,
-# python3, binutils, and a C compiler ($CC, else gcc) for the shared library.
+# The default FOLDER is capi/out. `llvm`, the default, and `rattle` are the kit's two compilers. Crates that are not proved yet are
+# proved first; `rt all check --jobs 4` does that on four processors. Required: the kit's `rt`, python3, binutils, and a C compiler
+# ($CC, or gcc) for the shared library.
 #
-# The kit's compilers write no unwind information that a running program can use: unwind.py adds it, and changes no byte of the
-# code. From the same proved crate the same bytes are built.
+# The kit's compilers write no unwind information that a running program can use. unwind.py adds it, and changes no byte of the code.
+# The same proved crate gives the same bytes.
 set -eu
 if [ "${1:-}" = --help ]; then
     sed -n '2,/^set/s/^# \{0,1\}//p' "$0"

@@ -1,14 +1,14 @@
 #!/bin/sh
-# Builds the library for C by both compilers of the kit, and tries it: the header, the structs, every function with what is and what
-# is no value of its arguments, with NULL, zeros and every room that is too small, the examples, the Python package, the commands of
-# GDB, the inspector, walks of the stack, the listing of a real file against the program's, clients of what install.sh installs, and
-# the packages of packaging/build.sh as far as that needs no root (packaging/test.sh installs them).
+# Builds the C library with both compilers of the kit and tests it: the header; the structs; every function with valid and invalid
+# arguments, with NULL, zeros and every buffer that is too small; the examples; the Python package; the GDB commands; the inspector;
+# stack walks; the listing of a real file against that of the program; clients of the files that install.sh installs; and the packages
+# of packaging/build.sh as far as no root is needed (packaging/test.sh installs them).
 #
 #   capi/test.sh [FILE]
 #
-# FILE is raw 64-bit code; where none is named it is the .text of gdb, of python3 or of the C library, the first that is there and
-# that objcopy takes. It wants the kit's `rt`, gcc with g++, binutils and python3; gdb, pkg-config, pip, mypy, pyelftools, Graphviz and
-# dpkg-dev where they are there. It says what it ran.
+# FILE is raw 64-bit code. The default is the .text of gdb, of python3 or of the C library: the first that is installed and that
+# objcopy accepts. Required: the kit's `rt`, gcc with g++, binutils, python3. Used if installed: gdb, pkg-config, pip, mypy, pyelftools,
+# Graphviz and dpkg-dev. Each step prints what it ran.
 set -eu
 if [ "${1:-}" = --help ]; then
     sed -n '2,/^set/s/^# \{0,1\}//p' "$0"
