@@ -19,7 +19,7 @@ static int failures, tests;
     } while (0)
 
 /* Whether each byte of some memory is 0xaa, with which a test fills what no call may write. */
-static int is_untouched(const void *memory, size_t len)
+static inline int is_untouched(const void *memory, size_t len)
 {
     const uint8_t *bytes = (const uint8_t *)memory;
     size_t i;
