@@ -66,8 +66,7 @@ fn append_row<const N: usize>(
     append_short(out, bits, row, name, instr);
 }
 
-/// Appends the text of a well-formed instruction in the AT&T style, in a mode: ASCII, at most `TEXT_LEN` bytes, for which there is
-/// room.
+/// Appends the AT&T text of a well-formed instruction: ASCII, at most `TEXT_LEN` bytes. `out` must have that much space left.
 pub fn print_to<const N: usize>(out: &mut ArrayVec<u8, N>, bits: Bits, instr: &Instr)
     requires well { IsTrue (is_well_formed instr.now) }
     requires room { array_vec_len out.old + TEXT_LEN ≤ N }
@@ -78,7 +77,15 @@ pub fn print_to<const N: usize>(out: &mut ArrayVec<u8, N>, bits: Bits, instr: &I
     append_row(out, bits, &printed_row(instr), printed_name(instr), instr);
 }
 
-/// The text of a well-formed instruction in the AT&T style, in a mode: ASCII, at most `TEXT_LEN` bytes.
+/// Returns the AT&T text of a well-formed instruction in a mode: ASCII, at most `TEXT_LEN` bytes.
+///
+/// The text has no address and no line feed. Operands are in AT&T order: the destination comes last.
+///
+/// ```
+/// let read = decode_in(Bits::B64, 0x40_1000, b"\xf0\xff\x44\xbe\x10")?;
+/// let text = print_att(Bits::B64, &read.instr);
+/// println!(rt; "{}", ascii_str(&text))?; // lock incl 0x10(%rsi,%rdi,4)
+/// ```
 pub fn print(bits: Bits, instr: &Instr) -> Text
     requires { IsTrue (is_well_formed instr.now) }
     ensures items { result.items ≡ spec.text bits instr.now }

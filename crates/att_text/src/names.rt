@@ -111,7 +111,7 @@ fn operand_letter(size: Size) -> &'static [u8]
     }
 }
 
-/// Whether a name is this word.
+/// Returns whether a name equals this word.
 #[inline]
 pub fn is_word(name: &[u8], word: &[u8]) -> bool
     ensures { result ≡ bytes_eq name.now word.now }
@@ -185,7 +185,7 @@ fn append_extension_letters<const N: usize>(out: &mut ArrayVec<u8, N>, row: &Row
     append_few(out, operand_letter(row.size));
 }
 
-/// Appends the name of an instruction whose row has this name, with its letters.
+/// Appends the AT&T name of an instruction whose row has this name: the name and its size letters.
 #[tactic(auto, unfolding(crate::specs::Names::att_name))]
 pub fn append_name<const N: usize>(
     out: &mut ArrayVec<u8, N>,

@@ -178,7 +178,7 @@ fn is_last(instr: &Instr, n: usize) -> bool
     n == 3 || operand_at(instr, n + 1).is_absent()
 }
 
-/// Appends the first operand with what stands in front of it.
+/// Appends the first operand and the space before it.
 #[inline(always)]
 #[tactic(auto, unfolding(crate::specs::Operands::att_part))]
 pub fn append_first_part<const N: usize>(
@@ -197,7 +197,7 @@ pub fn append_first_part<const N: usize>(
     append_operand(out, bits, instr, op);
 }
 
-/// Appends operand `n` behind the first with what stands in front of it. Nothing is called for one that is absent.
+/// Appends operand `n`, which is not the first, and the separator before it. Absent operands are never passed.
 #[inline(always)]
 #[tactic(auto, unfolding(crate::specs::Operands::att_part, crate::specs::Operands::att_operand, crate::specs::Operands::star, text_parts::specs::Layout::separator))]
 pub fn append_later_part<const N: usize>(

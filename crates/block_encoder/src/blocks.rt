@@ -16,18 +16,20 @@ use x86_values::Bits;
 
 /// Moves blocks of code to new addresses.
 ///
-/// `items` are the instructions of all blocks in order; the first span has the first of them, and so on. Each was read, or could have been written, at
-/// its old address. A target goes with the instruction of the same block that began there, else with the first one of another block, else it stays. The
-/// forms of branches are those of the least closed layout: no branch has a later form than in any closed layout (docs/closed-layouts.md). A layout that is
-/// not closed may have a shorter branch and reach all goals too. New ranges may overlap each other and old ones. An empty block ends at its new base, in
-/// the old code and in the new.
+/// `items` are the instructions of all blocks in order; the first span owns the first of them, and so on. Each instruction was decoded, or could have
+/// been encoded, at its old address. A branch or RIP operand whose target starts an instruction of the same block follows that instruction. Otherwise
+/// it follows the first instruction of another block that starts there. Otherwise it keeps its target.
 ///
-/// `TooMany`: there are more than 65,536 items. `OldOrder`: an item that is not the first of its block does not begin where the one before it ended.
-/// `Wraps`: an old end, else a new end, passes the address space of the mode, the first that does. `TooFar`: an item does not reach its goal, the
-/// first that does not. `Memory` may stand in place of what comes behind `OldOrder`.
+/// Branches take the forms of the least closed layout: no closed layout has an earlier form of any branch (docs/closed-layouts.md). A layout that is
+/// not closed may have a shorter branch and still reach all goals. New ranges may overlap each other and old ranges. An empty block ends at its new
+/// base.
 ///
-/// Each branch reaches its target or the moved copy of it: `answer` says that the blocks are those of the least layout, and `goals` that the image of
-/// each item goes to the goal of that item (`GoesToGoal`).
+/// Errors: `TooMany`: there are more than 65,536 items. `OldOrder`: an item, not the first of its block, does not begin where the previous one ended.
+/// `Wraps`: an old end, or else a new end, lies past the address space of the mode; the first such end is reported. `TooFar`: an item cannot reach
+/// its goal; the first such item is reported. `Memory` can replace any error after `OldOrder`.
+///
+/// The clause `answer` states that the blocks are those of the least layout. The clause `goals` states that the image of each item goes to the goal
+/// of that item (`GoesToGoal`).
 pub fn move_blocks(
     alloc: Global,
     bits: Bits,
@@ -56,7 +58,7 @@ pub fn move_blocks(
     move_with_ready(alloc, bits, items, &plan, &ready)
 }
 
-/// Moves one block of code to a new address, by the rules and with the refusals of [`move_blocks`].
+/// Moves one block of code to a new address. The rules and errors are those of [`move_blocks`].
 pub fn move_block(
     alloc: Global,
     bits: Bits,

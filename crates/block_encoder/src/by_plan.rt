@@ -29,10 +29,12 @@ fn first_new_pass(bits: Bits, ends: &[BlockEnd]) -> Option<u128>
     None
 }
 
-/// Moves the items of a plan, which has the forms and the goal of each, in its least layout.
+/// Moves the items of a plan, which gives the forms and the goal of each item, to their places in the least layout.
 ///
-/// Old places are not looked at: where each item goes is what the plan says. `Wraps`: a new end passes the address space of the mode, the first that
-/// does. `TooFar`: an item does not reach its goal, the first that does not. `Memory` may stand in place of both; `TooMany` and `OldOrder` never come.
+/// The plan alone decides where each item goes; old addresses do not matter.
+///
+/// Errors: `Wraps`: a new end lies past the address space of the mode; the first such end is reported. `TooFar`: an item cannot reach its goal; the
+/// first such item is reported. `Memory` can replace either. `TooMany` and `OldOrder` do not occur.
 pub fn move_by_plan(
     alloc: Global,
     bits: Bits,

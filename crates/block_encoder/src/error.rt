@@ -7,8 +7,8 @@ use branch_sizes::LayoutError;
 use std::alloc::{AllocError, AllocFailed};
 use thiserror::Error;
 
-/// Why blocks are not moved. Where causes stand together the first of these in the order `TooMany`, `OldOrder`, `Wraps`, `TooFar` is reported; `Memory`
-/// may stand in place of what comes after `OldOrder`.
+/// Why blocks are not moved. If several causes hold, the first in the order `TooMany`, `OldOrder`, `Wraps`, `TooFar` is reported. `Memory` can
+/// replace any error after `OldOrder`.
 #[derive(Clone, Copy, PartialEq, Eq, Debug, Error)]
 pub enum MoveError {
     /// There was not enough memory.

@@ -53,8 +53,8 @@ fn add_goal(goals: &mut ArrayVec<u64, 2>, far: bool, goal: u64)
     }
 }
 
-/// How many bytes at most two instructions take with a gap and slots from a new address on, where each has its last form and keeps its target: no
-/// [`move_outside`](crate::move_outside) of them gives more there.
+/// Returns an upper bound, in bytes, for one or two instructions moved to an address by [`move_outside`](crate::move_outside): each in its last form,
+/// with the gap and the slots.
 pub fn last_len(bits: Bits, items: &[Placed], new_base: u64) -> u64
     requires few { length items.now ≤ 2 }
     requires placed { ArePlaced bits items.now }

@@ -24,7 +24,7 @@ ghost use Rattle.block_encoder.specs.Facts.{FragmentFacts, MovedFacts, ReachFact
 
 use crate::laws_below::laws_below;
 
-/// Moved code is read as it was written: of blocks that are moved by any plan of them the sweep of each, from its new base to its gap, gives the
+/// Moved code decodes as it was encoded. If any plan moves some blocks, the sweep of each new block, from its base to its gap, yields the
 /// instructions of the images in order.
 pub fn moved_code_is_read_as_images()
     ensures { (bits : Bits) (items : List Placed) (spans : List BlockSpan) (goals : ℕ → Goal) → AreSpansOf items spans → ArePlaced bits items
@@ -34,8 +34,8 @@ pub fn moved_code_is_read_as_images()
     laws_below();
 }
 
-/// An instruction that is no relative branch is too far only where its operand at RIP or EIP does not reach: otherwise it has a plain spelling at its new
-/// place.
+/// An instruction that is not a relative branch is too far only if its RIP or EIP operand cannot reach. Otherwise it has a plain spelling at its new
+/// address.
 pub fn only_targets_are_too_far()
     ensures { (bits : Bits) (items : List Placed) (spans : List BlockSpan) → AreSpansOf items spans → ArePlaced bits items → length items ≤ 65536
         → (layout : List ℕ) → IsLeast (plan_for bits spans items) layout → first_new_pass bits (plan_for bits spans items) layout ≡ None
@@ -46,8 +46,9 @@ pub fn only_targets_are_too_far()
     laws_below();
 }
 
-/// Where an image goes, by any plan. What has no target stays as it is; what is aimed at RIP or EIP is aimed at the goal instead; of a branch the last instruction
-/// goes to the goal, or through the slot that has it, and each instruction before the last one goes over the next.
+/// States where an image goes, for any plan. An instruction without a target stays as it is. An instruction with a RIP or EIP operand addresses the
+/// goal instead. The last instruction of a branch's image goes to the goal, directly or through the slot that holds it, and each earlier instruction
+/// of that image skips the next one.
 pub fn images_go_to_their_goals()
     ensures stays { (bits : Bits) (items : List Placed) (spans : List BlockSpan) (goals : ℕ → Goal) → ArePlaced bits items → (layout : List ℕ) (k : ℕ) → k < length items
         → target_of (item_at items k).instr ≡ None
@@ -73,7 +74,7 @@ pub fn images_go_to_their_goals()
     laws_below();
 }
 
-/// Of blocks that are moved by any plan of them, each image stands at its place in its block, and a block ends at its new end.
+/// Each image lies at its place in its block, and each block ends at its new end. This holds for blocks moved by any plan.
 pub fn images_stand_at_their_places()
     ensures place { (bits : Bits) (items : List Placed) (spans : List BlockSpan) (goals : ℕ → Goal) → AreSpansOf items spans
         → (m : MovedLists) (moved : IsMovedBy bits items (plan_with bits spans items goals) m) (k : ℕ) → k < length items
@@ -86,7 +87,7 @@ pub fn images_stand_at_their_places()
     laws_below();
 }
 
-/// Of blocks that are moved by any plan of them, the slot that a branch of a far form goes through has its goal.
+/// The slot of a branch of a far form holds the goal of that branch. This holds for blocks moved by any plan.
 pub fn slots_have_their_goals()
     ensures { (bits : Bits) (items : List Placed) (spans : List BlockSpan) (goals : ℕ → Goal) → AreSpansOf items spans
         → (m : MovedLists) (moved : IsMovedBy bits items (plan_with bits spans items goals) m) (k : ℕ) → k < length items → is_far_at (plan_with bits spans items goals) moved.layout k ≡ true
@@ -105,9 +106,11 @@ pub fn branches_reach_in_64_bit_mode()
     laws_below();
 }
 
-/// In every mode, by any plan, a relative branch whose form reaches its goal from its place is reached exactly where reading its image there gives the
-/// goal: where some bytes are read there as the instructions of its image, of which the last goes to the goal, or through its slot. Outside 64-bit mode
-/// that can fail: where the goal lies at or above 2 to the operand size, or where a 32-bit branch of 16-bit code ends at 2 to the 16 and so counts from 0.
+/// A relative branch whose form reaches its goal from its place is accepted exactly if some bytes decode there as its image, and the last instruction
+/// of that image goes to the goal, directly or through its slot. This holds in every mode and for any plan.
+///
+/// Outside 64-bit mode it can fail: if the goal is at or above 2 to the operand size, or if a 32-bit branch of 16-bit code ends at 2^16 and so counts
+/// from 0.
 pub fn branches_are_reached_where_they_are_read()
     ensures { (bits : Bits) (items : List Placed) (spans : List BlockSpan) (goals : ℕ → Goal) → ArePlaced bits items
         → (layout : List ℕ) → IsLayout (plan_with bits spans items goals) layout → (k t : ℕ) → k < length items
@@ -118,13 +121,13 @@ pub fn branches_are_reached_where_they_are_read()
     laws_below();
 }
 
-/// The plan of some items has their forms and goals, and a layout of it gives each the fragment of its choice.
+/// The plan of some items has their forms and goals. A layout of that plan gives each item the fragment of its choice.
 #[inline]
 pub fn plans_lay_out_their_items()
     ensures { FragmentFacts }
 {}
 
-/// The laws of the images and slots of moved blocks as one record.
+/// The laws of the images and slots of moved blocks, as one record.
 #[inline]
 pub fn moved_blocks_keep_their_laws()
     ensures { MovedFacts }
@@ -135,7 +138,7 @@ pub fn moved_blocks_keep_their_laws()
     slots_have_their_goals();
 }
 
-/// The laws of items that reach their goals as one record, with what they rest on in 64-bit mode.
+/// The laws of items that reach their goals, as one record, together with their premises in 64-bit mode.
 #[inline]
 pub fn items_reach_their_goals()
     ensures { ReachFacts }
@@ -145,7 +148,7 @@ pub fn items_reach_their_goals()
     branches_reach_in_64_bit_mode();
 }
 
-/// Last forms bound the length of a block from which every target stays, by the same number at addresses a multiple of 16 bytes apart.
+/// The last forms bound the length of a block that keeps every target. The bound is equal at addresses that differ by a multiple of 16 bytes.
 #[inline]
 pub fn last_forms_bound_the_length()
     ensures { LastFacts }
@@ -153,7 +156,7 @@ pub fn last_forms_bound_the_length()
     laws_below();
 }
 
-/// The near jump to an address is well placed as one that stands there, and outside 64-bit mode it is encoded at every address.
+/// A near jump to an address is well placed, as an instruction that lies there. Outside 64-bit mode it has an encoding at every address.
 #[inline]
 pub fn near_jumps_are_encoded()
     ensures { JumpFacts }

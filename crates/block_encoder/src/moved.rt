@@ -5,7 +5,7 @@ ghost use Rattle.std.specs.Prelude.{◌≡◌};
 use branch_sizes::Form;
 use std::marker::Model;
 
-/// Moved blocks.
+/// Blocks after a move, as [`move_blocks`](crate::move_blocks) returns them.
 #[derive(Drop)]
 pub struct MovedBlocks {
     pub(crate) bytes: Vec<u8>,
@@ -27,35 +27,35 @@ impl Model for MovedBlocks {
 }
 
 impl MovedBlocks {
-    /// The bytes of the blocks, one behind another: the images, and where a block has slots a gap of at most 7 bytes CC and the slots.
+    /// Returns the bytes of the blocks, one after another: the images, and in a block with slots a gap of at most 7 bytes CC and the slots.
     pub fn bytes(&self) -> &[u8]
         ensures { result.now ≡ self.now.bytes }
     {
         &self.bytes
     }
 
-    /// The new address of each item.
+    /// Returns the new address of each item.
     pub fn starts(&self) -> &[u64]
         ensures { result.now ≡ self.now.starts }
     {
         &self.starts
     }
 
-    /// The form of each item.
+    /// Returns the form of each item.
     pub fn forms(&self) -> &[Form]
         ensures { result.now ≡ self.now.forms }
     {
         &self.forms
     }
 
-    /// The goals in the slots of all blocks, in order.
+    /// Returns the goals in the slots of all blocks, in order.
     pub fn slots(&self) -> &[u64]
         ensures { result.now ≡ self.now.slots }
     {
         &self.slots
     }
 
-    /// For each block how many bytes there are up to its end.
+    /// Returns, for each block, the number of bytes up to its end.
     pub fn ends(&self) -> &[u64]
         ensures { result.now ≡ self.now.ends }
     {
@@ -63,7 +63,7 @@ impl MovedBlocks {
     }
 }
 
-/// One moved block.
+/// One block after a move, as [`move_block`](crate::move_block) and [`move_outside`](crate::move_outside) return it.
 #[derive(Drop)]
 pub struct Moved {
     pub(crate) blocks: MovedBlocks,
@@ -81,28 +81,28 @@ impl Model for Moved {
 }
 
 impl Moved {
-    /// The bytes of the block: the images, and where it has slots a gap of at most 7 bytes CC and the slots.
+    /// Returns the bytes of the block: the images, and if it has slots a gap of at most 7 bytes CC and the slots.
     pub fn bytes(&self) -> &[u8]
         ensures { result.now ≡ self.now.bytes }
     {
         self.blocks.bytes()
     }
 
-    /// The new address of each item.
+    /// Returns the new address of each item.
     pub fn starts(&self) -> &[u64]
         ensures { result.now ≡ self.now.starts }
     {
         self.blocks.starts()
     }
 
-    /// The form of each item.
+    /// Returns the form of each item.
     pub fn forms(&self) -> &[Form]
         ensures { result.now ≡ self.now.forms }
     {
         self.blocks.forms()
     }
 
-    /// The goals in the slots, in order.
+    /// Returns the goals in the slots, in order.
     pub fn slots(&self) -> &[u64]
         ensures { result.now ≡ self.now.slots }
     {

@@ -22,12 +22,12 @@ fn one_block(answer: Result<MovedBlocks, MoveError>) -> Result<Moved, MoveError>
     }
 }
 
-/// Moves instructions to a new address, one behind another, and keeps every target: a branch to one of them goes to where that was.
+/// Moves instructions to a new address, one after another, and keeps every target: a branch to one of them goes to its old address.
 ///
-/// Each was read, or could have been written, at its old address; how the old addresses lie to one another is not looked at.
+/// Each instruction was decoded, or could have been encoded, at its old address. The old addresses may lie in any order.
 ///
-/// `TooMany`: there are more than 65,536 items. `Wraps`: the new end passes the address space of the mode. `TooFar`: an item does not reach its target,
-/// the first that does not. `Memory` may stand in place of what comes behind `TooMany`. `OldOrder` never comes.
+/// Errors: `TooMany`: there are more than 65,536 items. `Wraps`: the new end lies past the address space of the mode. `TooFar`: an item cannot reach
+/// its target; the first such item is reported. `Memory` can replace any error after `TooMany`. `OldOrder` does not occur.
 pub fn move_outside(
     alloc: Global,
     bits: Bits,

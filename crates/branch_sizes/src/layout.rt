@@ -25,7 +25,7 @@ fn is_below(address: u128, bits: u8) -> bool
     bits >= 96 || address < 1 << bits
 }
 
-/// Whether an image of some bytes at a place reaches a goal. Places may lie behind the end of the address space.
+/// Returns whether an image of `len` bytes at a place reaches a goal. A place may lie past the end of the address space.
 #[inline]
 pub fn reaches(reach: Reach, len: u8, place: u128, goal: u128) -> bool
     requires place { place < 2 ^ 66 }
@@ -80,8 +80,8 @@ pub(crate) fn image_len(item: &Branch, f: u8) -> u8
     item.choices[usize::from(f)].len
 }
 
-/// The place of each item in a layout, which has the number of each item's choice: the address of its image, which may lie behind the end of the
-/// address space. The only refusal is lack of memory.
+/// Returns the place of each item in a layout, which gives the number of each item's choice. A place is the address of the item's image and may lie
+/// past the end of the address space. The only error is lack of memory.
 pub fn places(
     alloc: Global,
     spans: &[BlockSpan],
@@ -123,7 +123,7 @@ pub(crate) fn chosen_forms(
     Ok(forms)
 }
 
-/// Why no layout is given.
+/// Why no layout is returned.
 #[derive(Clone, Copy, Debug, PartialEq, Eq, Error)]
 pub enum LayoutError {
     /// The allocator had no memory left.
@@ -138,7 +138,7 @@ impl From<AllocError> for LayoutError {
     }
 }
 
-/// The least closed layout of a plan, and where its images stand.
+/// The least closed layout of a plan, with the place of each image.
 #[derive(Drop)]
 pub struct LeastLayout {
     /// The number of each item's choice.
@@ -147,8 +147,8 @@ pub struct LeastLayout {
     pub places: Vec<u128>,
 }
 
-/// The choices of the least closed layout of a plan, item by item, of which [`least_layout`] has the forms, and the places of the images.
-/// `Memory` is the only refusal.
+/// Returns the choices of the least closed layout of a plan, item by item, and the places of the images. [`least_layout`] returns the forms of these
+/// choices. The only error is `Memory`.
 pub fn least_choices(alloc: Global, plan: &Plan) -> Result<LeastLayout, LayoutError>
     ensures least { IfOk result (λ least. IsLeast plan.now least.choices.items) }
     ensures places { IfOk result (λ least. ArePlaces plan.now least.choices.items least.places.items) }
@@ -159,11 +159,12 @@ pub fn least_choices(alloc: Global, plan: &Plan) -> Result<LeastLayout, LayoutEr
 
 /// Sets `forms` to the forms of the least closed layout of a plan, item by item.
 ///
-/// In a closed layout each item has its last choice, or its choice reaches its goal: an item of its own block from
-/// where both stand; an address that stays from its place and from its place in the layout of first choices; an item of
-/// another block where both stand, where both stood in that layout, and from each place to where the other one was.
-/// The least one has at each item the earliest choice that any closed layout has there. `Memory` is the only refusal,
-/// and leaves `forms` as it was.
+/// A layout is closed if each item has its last choice, or a choice that reaches its goal under each of these assumptions. A goal in its own block:
+/// both items at their places. An address that stays: the item at its place, and at its place in the layout of first choices. An item of another
+/// block: both at their places, both at their places in the layout of first choices, and each at its place with the other at its first one. The least
+/// closed layout has, at each item, the earliest choice that any closed layout has there.
+///
+/// The only error is `Memory`; it leaves `forms` unchanged.
 pub fn least_layout(alloc: Global, plan: &Plan, forms: &mut Vec<Form>) -> Result<(), LayoutError>
     ensures ok { OnOk result (AreLeastForms plan.now forms.new.items) }
     ensures err { OnErr result (forms.new.items ≡ forms.old.items) }

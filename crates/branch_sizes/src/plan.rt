@@ -3,7 +3,7 @@
 use arrayvec::ArrayVec;
 use std::marker::Model;
 
-/// The form that a moved instruction takes.
+/// The form of a moved instruction.
 #[derive(Clone, Copy, Debug, Default, PartialEq, Eq)]
 pub enum Form {
     /// The instruction as it was: the one form of what is no relative branch.
@@ -21,7 +21,7 @@ pub enum Form {
     FarBridge,
 }
 
-/// Where a branch goes.
+/// The goal of a branch.
 #[derive(Clone, Copy, Debug, Default, PartialEq, Eq)]
 pub enum Goal {
     /// Nowhere: the item is no branch.
@@ -33,7 +33,7 @@ pub enum Goal {
     Outside(u64),
 }
 
-/// Which goals a choice reaches from its place.
+/// The goals that a choice reaches from its place.
 #[derive(Clone, Copy, Debug, Default, PartialEq, Eq)]
 pub enum Reach {
     /// Every goal.
@@ -50,7 +50,7 @@ pub enum Reach {
     BridgeBelow { bits: u8, inner: u8 },
 }
 
-/// A form that an item may take.
+/// A form that an item can take.
 #[derive(Clone, Copy, Debug, Default, PartialEq, Eq)]
 pub struct Choice {
     pub form: Form,
@@ -59,15 +59,15 @@ pub struct Choice {
     pub reach: Reach,
 }
 
-/// An item of a plan: one to three choices from the first to the last, of forms that differ and lengths that do not
-/// fall, and a goal. An item without a goal has one choice.
+/// An item of a plan: its goal, and one to three choices. The choices have different forms, and their lengths do not fall. An item without a goal has
+/// one choice.
 #[derive(Drop)]
 pub struct Branch {
     pub choices: ArrayVec<Choice, 3>,
     pub goal: Goal,
 }
 
-/// A block of items that stand one behind the other.
+/// A block of consecutive items.
 #[derive(Clone, Copy, Debug, Default, PartialEq, Eq)]
 pub struct BlockSpan {
     /// How many items it has.
@@ -83,10 +83,10 @@ enum Spans {
     Many(Vec<BlockSpan>),
 }
 
-/// The most items that a plan has.
+/// The maximum number of items in a plan.
 pub const MOST_ITEMS: usize = 65_536;
 
-/// Items in blocks: the first span has the first items, and so on. There are at most 65,536 items and as many blocks.
+/// Items in blocks: the first span owns the first items, and so on. A plan has at most 65,536 items and as many blocks.
 #[derive(Drop)]
 pub struct Plan {
     spans: Spans,
@@ -109,7 +109,7 @@ impl Plan {
     ghost use Rattle.std.specs.Prelude.{◌≡◌, ◌≤◌, IsTrue, length};
     ghost use Rattle.std.specs.List.{list_all};
 
-    /// The items in one block at an address. There are at most 65,536 of them, and each `Inside` is below their number.
+    /// Makes a plan of one block at an address. It takes at most 65,536 items, and each `Inside` number is below their count.
     pub fn new(base: u64, items: Vec<Branch>) -> Plan
         requires few { length items.items ≤ 65536 }
         requires fit { IsTrue (list_all (is_fit_branch (length items.items)) items.items) }
@@ -125,8 +125,8 @@ impl Plan {
         }
     }
 
-    /// The items in the given blocks. The counts of at most 65,536 spans add up to the number of items, of which there
-    /// are at most 65,536, and each `Inside` is below that number.
+    /// Makes a plan of several blocks. It takes at most 65,536 spans whose counts add up to the number of items, at most 65,536 items, and each
+    /// `Inside` number is below that count.
     pub fn of_blocks(spans: Vec<BlockSpan>, items: Vec<Branch>) -> Plan
         requires { IsWellFormed (plan_of spans.items items.items) }
         ensures { result ≡ plan_of spans.items items.items }
@@ -137,7 +137,7 @@ impl Plan {
         }
     }
 
-    /// The blocks.
+    /// Returns the blocks.
     pub fn spans(&self) -> &[BlockSpan]
         ensures spans { result.now ≡ self.now.spans }
         ensures plan { IsWellFormed self.now }
@@ -148,7 +148,7 @@ impl Plan {
         }
     }
 
-    /// The items of all blocks in order.
+    /// Returns the items of all blocks in order.
     pub fn items(&self) -> &[Branch]
         ensures { result.now ≡ self.now.items }
     {

@@ -6,10 +6,10 @@ use crate::layout::LayoutError;
 use std::alloc::{AllocError, Global};
 use std::marker::Model;
 
-/// Lengths whose sums from the front are found, and which grow, in as many steps as their number has bits.
+/// Lengths with fast prefix sums: finding a sum and growing a length each take as many steps as the count has bits.
 ///
-/// The last `count` numbers of `tree` are the lengths, and each other but number 0 is the sum of two behind it:
-/// number `u` is that of `2 * u` and `2 * u + 1`.
+/// The last `count` numbers of `tree` are the lengths. Each other number, except number 0, is the sum of two others: number `u` is the sum of `2 * u`
+/// and `2 * u + 1`.
 #[derive(Drop)]
 pub struct Sums {
     count: usize,
@@ -28,7 +28,7 @@ impl Model for Sums {
 }
 
 impl Sums {
-    /// The given lengths: at most 65,536 of 1 to 15 each. `Memory` is the only refusal.
+    /// Makes the sums of these lengths: at most 65,536 lengths of 1 to 15 each. The only error is `Memory`.
     pub fn make(alloc: Global, lens: &[u8]) -> Result<Sums, LayoutError>
         requires few { length lens.now ≤ 65536 }
         requires lengths { All (λ n. (1 ≤ n) × (n ≤ 15)) lens.now }
@@ -47,7 +47,7 @@ impl Sums {
         Ok(Sums { count, tree })
     }
 
-    /// The sum of the first `i` lengths, of which there are as many at least.
+    /// Returns the sum of the first `i` lengths. `i` is at most their count.
     #[inline]
     pub fn before(&self, i: usize) -> u64
         requires { i ≤ length self.now }
@@ -71,7 +71,7 @@ impl Sums {
         sum
     }
 
-    /// Adds `by` to length `i`, counted from 0, which stays at most 15. The others stay as they are.
+    /// Adds `by` to length `i`, counted from 0, which stays at most 15. The other lengths do not change.
     #[inline]
     pub fn grow(&mut self, i: usize, by: u8)
         requires below { i < length self.old }

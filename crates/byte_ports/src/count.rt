@@ -6,7 +6,7 @@ use crate::failed::Failed;
 use crate::ports::Sink;
 use std::marker::Model;
 
-/// A sink that takes every byte and keeps only their number and their sum, each modulo 2^64. It never fails.
+/// A sink that accepts every byte and keeps only the number and the sum of the bytes, each modulo 2^64. It never fails. For tests and measurements.
 #[derive(Drop)]
 pub struct CountSink {
     count: u64,
@@ -22,14 +22,14 @@ impl Model for CountSink {
 }
 
 impl CountSink {
-    /// A sink that has taken nothing.
+    /// Makes a sink that has received nothing.
     pub fn new() -> CountSink
         ensures { result ≡ record { count = 0; total = 0 } }
     {
         CountSink { count: 0, sum: 0 }
     }
 
-    /// The number of bytes, modulo 2^64.
+    /// Returns the number of bytes, modulo 2^64.
     #[inline]
     pub fn count(&self) -> u64
         ensures { result ≡ self.now.count }
@@ -37,7 +37,7 @@ impl CountSink {
         self.count
     }
 
-    /// The sum of the bytes, modulo 2^64.
+    /// Returns the sum of the bytes, modulo 2^64.
     #[inline]
     pub fn sum(&self) -> u64
         ensures { result ≡ self.now.total }

@@ -7,8 +7,8 @@ use crate::failed::Failed;
 use crate::ports::{Sink, Source};
 use arrayvec::ArrayVec;
 
-/// A port that fails exactly at its calls with these numbers, counted from 1, and where the inner port fails.
-/// At a listed call the inner port is not asked. Calls behind number 2^64 - 1 fail only where the inner port does.
+/// A port for tests. It fails at the calls with the listed numbers, counted from 1, and passes every other call to the inner port, which may fail
+/// too. After call 2^64 - 1 only the inner port can fail.
 #[derive(Drop)]
 pub struct FailAt<P> {
     inner: P,
@@ -19,7 +19,7 @@ pub struct FailAt<P> {
 impl<P> FailAt<P> {
     ghost use Rattle.byte_ports.specs.Failing.{inner_of, calls_of, made_of};
 
-    /// A port over `inner` that fails at the calls with these numbers.
+    /// Makes a port over `inner` that fails at the calls with these numbers.
     pub fn new(inner: P, calls: ArrayVec<u64, 8>) -> FailAt<P>
         ensures inner { inner_of result ≡ inner }
         ensures calls { calls_of result ≡ calls.items }
@@ -32,7 +32,7 @@ impl<P> FailAt<P> {
         }
     }
 
-    /// The port that the calls which do not fail are handed on to.
+    /// Returns the inner port.
     #[inline]
     pub fn inner(&self) -> &P
         ensures { result.now ≡ inner_of self.now }

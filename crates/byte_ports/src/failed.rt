@@ -1,3 +1,3 @@
-/// A port failed. Its count of faults says that it did, and nothing was taken.
+/// A port failed. Its count of faults has risen, and it has transferred nothing.
 #[derive(Clone, Copy, PartialEq, Eq, Debug)]
 pub struct Failed;

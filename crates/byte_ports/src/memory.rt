@@ -24,7 +24,7 @@ impl<'a> Model for MemSource<'a> {
 }
 
 impl<'a> MemSource<'a> {
-    /// A source of these bytes.
+    /// Makes a source of these bytes.
     pub fn new(bytes: &'a [u8]) -> MemSource<'a>
         ensures { result ≡ bytes.now }
     {
@@ -48,7 +48,7 @@ impl<'a> Source for MemSource<'a> {
     }
 }
 
-/// Why a sink in memory was not made.
+/// Why no sink in memory was made.
 #[derive(Clone, Copy, PartialEq, Eq, Debug, Error)]
 pub enum MakeError {
     /// There is no memory for its room.
@@ -56,7 +56,7 @@ pub enum MakeError {
     Memory,
 }
 
-/// A sink in memory with room for a fixed number of bytes.
+/// A sink in memory with a fixed capacity in bytes.
 #[derive(Drop)]
 pub struct MemSink {
     bytes: Vec<u8>,
@@ -76,7 +76,7 @@ impl Model for MemSink {
 }
 
 impl MemSink {
-    /// An empty sink with room for `room` bytes, whose memory is taken at once. Nothing takes memory afterwards.
+    /// Makes an empty sink with a capacity of `room` bytes. It allocates all memory at once and never again.
     pub fn new(alloc: Global, room: usize) -> Result<MemSink, MakeError>
         ensures { IfOk result (λ s. s ≡ record { bytes = []; free = room; faults = 0 }) }
     {
@@ -88,7 +88,7 @@ impl MemSink {
         })
     }
 
-    /// The bytes that it has taken.
+    /// Returns the bytes that it has received.
     #[inline]
     pub fn bytes(&self) -> &[u8]
         ensures { result.now ≡ self.now.bytes }

@@ -5,7 +5,7 @@ ghost use Rattle.byte_ports.specs.Ports.{HasCause, with_front, with_back};
 
 use crate::failed::Failed;
 
-/// Where bytes come from.
+/// A source of bytes.
 pub trait Source {
     /// The bytes that are left, or None where they are not told.
     ghost left: { Self → Option (List ℕ) };
@@ -29,7 +29,7 @@ pub trait Source {
         ensures gives { pull_gives self.old into.old result self.new into.new };
 }
 
-/// Where bytes go to.
+/// A sink for bytes.
 pub trait Sink {
     /// The bytes that it holds, or None where they are not told.
     ghost held: { Self → Option (List ℕ) };

@@ -4,7 +4,7 @@ ghost use Rattle.std.specs.Prelude.{◌≡◌, take, drop};
 use crate::failed::Failed;
 use crate::ports::Source;
 
-/// A source that asks its inner source for at most one byte in each call.
+/// A source for tests that requests at most one byte of its inner source in each call.
 #[derive(Drop)]
 pub struct SlowSource<S> {
     inner: S,
@@ -13,7 +13,7 @@ pub struct SlowSource<S> {
 impl<S: Source> SlowSource<S> {
     ghost use Rattle.byte_ports.specs.Slow.{slow_inner};
 
-    /// A slow source over `inner`.
+    /// Makes a slow source over `inner`.
     pub fn new(inner: S) -> SlowSource<S>
         ensures { slow_inner result ≡ inner }
     {

@@ -14,7 +14,7 @@ pub struct ReaderSource<R> {
 }
 
 impl<R: Read> ReaderSource<R> {
-    /// A source over `inner` without faults.
+    /// Makes a source over `inner` whose count of faults is 0.
     pub fn new(inner: R) -> ReaderSource<R>
         ensures { ⟦<ReaderSource<R> as Source>⟧.faults result ≡ 0 }
     {
@@ -38,8 +38,7 @@ impl<R: Read> Source for ReaderSource<R> {
     }
 }
 
-/// A writer as a sink. Each error of the writer is a fault, and so is a writer that takes nothing of a piece that
-/// is not empty.
+/// A writer as a sink. Each error of the writer is a fault. A writer that accepts nothing of a non-empty piece is a fault too.
 #[derive(Drop)]
 pub struct WriterSink<W> {
     inner: W,
@@ -47,7 +46,7 @@ pub struct WriterSink<W> {
 }
 
 impl<W: Write> WriterSink<W> {
-    /// A sink over `inner` without faults.
+    /// Makes a sink over `inner` whose count of faults is 0.
     pub fn new(inner: W) -> WriterSink<W>
         ensures { ⟦<WriterSink<W> as Sink>⟧.faults result ≡ 0 }
     {

@@ -30,7 +30,7 @@ fn bytes_of(bits: u32, ip: u64, text: &[u8]) -> Result<ArrayVec<u8, 15>, Refusal
     }
 }
 
-/// Writes the bytes of an Intel text at an address, and returns how many there are.
+/// Assembles an Intel text at an address. Writes the bytes, and returns their number.
 #[tactic(auto, unfolding(crate::specs::Answers::bytes_within))]
 pub fn assemble(bits: u32, ip: u64, text: &[u8], out: &mut [u8]) -> i32
     ensures { spec.IsAssembly bits ip text.now out.old out.new result }
@@ -75,7 +75,7 @@ fn read_into(bits: Bits, ip: u64, text: &[u8], instr: &mut FlatInstr) -> i32
     }
 }
 
-/// Reads an Intel text into a struct, and returns how many bytes its instruction has.
+/// Reads an Intel text into a struct, and returns the length of the instruction's encoding in bytes.
 pub fn read_intel(bits: u32, ip: u64, text: &[u8], instr: &mut FlatInstr) -> i32
     ensures { spec.IsTextRead bits ip text.now instr.old instr.new result }
 {

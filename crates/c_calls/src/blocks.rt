@@ -128,7 +128,7 @@ fn put_blocks(
     }
 }
 
-/// Moves several blocks of code at once, each to an address of its own.
+/// Moves several blocks of code at once, each to its own address.
 pub fn move_blocks(
     alloc: Global,
     bits: u32,

@@ -26,7 +26,7 @@ fn decode_into(bits: Bits, ip: u64, bytes: &[u8], instr: &mut FlatInstr) -> i32
     }
 }
 
-/// Reads the instruction at the front of some bytes into a struct and returns its length.
+/// Decodes the instruction at the front of some bytes into a struct, and returns its length.
 pub fn decode(bits: u32, ip: u64, bytes: &[u8], instr: &mut FlatInstr) -> i32
     ensures { spec.IsDecoded (bits_numbered bits) ip bytes.now instr.old instr.new result }
 {

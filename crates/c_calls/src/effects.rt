@@ -161,7 +161,7 @@ fn touched_of(bits: u32, instr: &FlatInstr) -> Result<FlatTouched, Refusal>
     }
 }
 
-/// Tells what an instruction touches: registers, memory, flags, and the features that it needs.
+/// Returns what an instruction touches: registers, memory and flags, and the features that it needs.
 pub fn effects(bits: u32, instr: &FlatInstr, effects: &mut FlatTouched) -> i32
     ensures said { result ≡ spec.touched_said (spec.touched_of (bits_numbered bits) (instr_back instr.now)) }
     ensures left { effects.new ≡ spec.touched_left effects.old (spec.touched_of (bits_numbered bits) (instr_back instr.now)) }
@@ -182,7 +182,7 @@ fn register_code(register: Register) -> i32
     256 * i32::from(class_number(register)) + i32::from(register.number())
 }
 
-/// The widest register that holds a register, as 256 times its class and its number.
+/// Returns the widest register that contains a register, as 256 times its class plus its number.
 pub fn full_register(reg_class: u8, reg_number: u8) -> i32
     ensures { result ≡ spec.full_answer reg_class reg_number }
 {
@@ -205,7 +205,7 @@ fn name_of_feature(bit: u32) -> Result<&'static str, Refusal>
     }
 }
 
-/// Writes the name of the CPUID feature of a bit, and returns how many bytes it has.
+/// Writes the name of the CPUID feature of a bit, and returns the length of the name in bytes.
 #[tactic(auto, unfolding(crate::specs::Answers::text_within))]
 pub fn feature_name(bit: u32, out: &mut [u8]) -> i32
     ensures said { result ≡ said.count_or_refusal (said.text_within (length out.old) (spec.feature_answer bit)) }

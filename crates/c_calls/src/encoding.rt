@@ -210,7 +210,7 @@ fn encode_sized(bits: u32, mode: Bits, ip: u64, f: &FlatInstr, out: &mut [u8]) -
     }
 }
 
-/// Writes the plain (shortest) spelling of an instruction at an address, and returns how many bytes it has.
+/// Encodes an instruction at an address in its shortest form. Writes the bytes, and returns their number.
 #[tactic(auto, unfolding(crate::specs::Answers::bytes_within, crate::specs::Answers::encoding_of))]
 pub fn encode(bits: u32, ip: u64, instr: &FlatInstr, out: &mut [u8]) -> i32
     ensures said { result ≡ spec.count_or_refusal (spec.bytes_within (length out.old) (spec.encode_answer bits ip instr.now)) }
@@ -227,7 +227,7 @@ pub fn encode(bits: u32, ip: u64, instr: &FlatInstr, out: &mut [u8]) -> i32
     }
 }
 
-/// How many bytes the plain (shortest) spelling of an instruction at an address has.
+/// Returns the length in bytes of the shortest encoding of an instruction at an address.
 pub fn encoded_len(bits: u32, ip: u64, instr: &FlatInstr) -> i32
     ensures { result ≡ spec.count_or_refusal (spec.encode_answer bits ip instr.now) }
 {

@@ -48,7 +48,7 @@ pub struct FlatInstr {
     pub asize: u8,
 }
 
-/// A register that an instruction names, with what it does to it.
+/// A register that an instruction names, and its access.
 #[derive(Clone, Copy, PartialEq, Eq, Debug)]
 #[repr(C)]
 pub struct FlatUse {
@@ -82,7 +82,7 @@ pub struct FlatInfo {
     pub uses: [FlatUse; 8],
 }
 
-/// Memory that an instruction touches, with what it does there: an address of a segment, and a number of bytes.
+/// Memory that an instruction touches: its segment, its address, its size in bytes, and its access.
 #[derive(Clone, Copy)]
 #[repr(C)]
 pub struct FlatMemoryUse {
@@ -106,7 +106,8 @@ pub struct FlatMemoryUse {
     pub access: u8,
 }
 
-/// What an instruction touches. What is done to a register or memory is a number of four bits: 1 read, 2 written, 4 and 8 the same under a condition.
+/// What an instruction touches. The access to a register or to memory has four bits: 1 read, 2 written, 4 conditionally read, 8 conditionally
+/// written.
 #[derive(Clone, Copy)]
 #[repr(C)]
 pub struct FlatTouched {
@@ -148,7 +149,7 @@ pub struct FlatMoved {
     pub form: u8,
 }
 
-/// The numbers of a moving.
+/// The report of a move.
 #[derive(Clone, Copy)]
 #[repr(C)]
 pub struct FlatMove {
@@ -166,7 +167,7 @@ pub struct FlatMove {
     pub slots_at: u64,
 }
 
-/// A block of code that is moved with others.
+/// A block of code that is moved together with others.
 #[derive(Clone, Copy)]
 #[repr(C)]
 pub struct FlatBlock {
@@ -180,7 +181,7 @@ pub struct FlatBlock {
     pub len: u64,
 }
 
-/// A moved block.
+/// A block after a move.
 #[derive(Clone, Copy)]
 #[repr(C)]
 pub struct FlatPlace {
@@ -192,7 +193,7 @@ pub struct FlatPlace {
     pub count: u64,
 }
 
-/// The numbers of a moving of blocks.
+/// The report of a move of several blocks.
 #[derive(Clone, Copy)]
 #[repr(C)]
 pub struct FlatBlocks {
@@ -208,7 +209,7 @@ pub struct FlatBlocks {
     pub address: u64,
 }
 
-/// The numbers of a detour.
+/// The report of a detour.
 #[derive(Clone, Copy)]
 #[repr(C)]
 pub struct FlatDetour {
@@ -230,7 +231,7 @@ pub struct FlatDetour {
     pub form: u8,
 }
 
-/// The numbers of the code of a step.
+/// The report of a step.
 #[derive(Clone, Copy)]
 #[repr(C)]
 pub struct FlatStep {
@@ -244,7 +245,7 @@ pub struct FlatStep {
     pub len: u8,
 }
 
-/// A fixed range of addresses in which blocks of code find a place.
+/// A fixed range of addresses that holds blocks of code.
 #[derive(Clone, Copy)]
 #[repr(C)]
 pub struct FlatRegion {
@@ -276,7 +277,7 @@ pub struct FlatPart {
     pub len: u8,
 }
 
-/// Where the parts of an instruction are in its bytes, in their order.
+/// The parts of an instruction in its bytes, in order.
 #[derive(Clone, Copy)]
 #[repr(C)]
 pub struct FlatOffsets {

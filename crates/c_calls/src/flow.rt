@@ -55,7 +55,7 @@ fn put_graph(graph: &FlowGraph, starts: &mut [u32], leaders: &mut [u32]) -> i32
     count_answer(count)
 }
 
-/// Writes the offsets that control reaches from the first byte of some code, and their leaders. Returns how many there are.
+/// Writes the offsets that control reaches from the first byte of some code, with their leaders. Returns their number.
 pub fn flow(
     alloc: Global,
     bits: u32,

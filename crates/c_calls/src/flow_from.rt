@@ -81,7 +81,8 @@ fn put_graph(graph: &FlowGraph, starts: &mut [u32], leaders: &mut [u32], kinds: 
     count_answer(count)
 }
 
-/// Writes the offsets that control reaches from several first offsets, their leaders and what is read there. Returns how many there are.
+/// Writes the offsets that control reaches from several entry offsets, with their leaders and the flow of the instruction at each. Returns their
+/// number.
 pub fn flow_from(
     alloc: Global,
     bits: u32,

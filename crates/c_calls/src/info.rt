@@ -149,7 +149,7 @@ fn info_of(instr: &FlatInstr) -> Result<FlatInfo, Refusal>
     }
 }
 
-/// Tells what an instruction does: its flow, operands, memory, target and registers.
+/// Returns what an instruction does: its flow, operands, memory, target and registers.
 pub fn info(instr: &FlatInstr, info: &mut FlatInfo) -> i32
     ensures said { result ≡ spec.info_said (spec.info_of (instr_back instr.now)) }
     ensures left { info.new ≡ spec.info_left info.old (spec.info_of (instr_back instr.now)) }

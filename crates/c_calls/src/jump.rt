@@ -114,7 +114,7 @@ fn jump_of(bits: u32, at: u64, target: u64, form: u32) -> Result<JumpBytes, Refu
     jump_bytes(bits, at, target, form)
 }
 
-/// Writes a jump or a call of a form, and returns how many bytes it has.
+/// Writes a jump or a call of the given form, and returns its length in bytes.
 #[tactic(auto, unfolding(crate::specs::Answers::bytes_within))]
 pub fn jump(bits: u32, at: u64, target: u64, form: u32, out: &mut [u8]) -> i32
     ensures said { result ≡ said.count_or_refusal (said.bytes_within (length out.old) (spec.jump_answer bits at target form)) }

@@ -54,14 +54,14 @@ use text_parts::text::Text;
 use text_rows::row_lines::notation_of;
 use x86_values::{Bits, Instr};
 
-/// Every instruction comes back from its struct; so two with the same struct are the same.
+/// Every instruction can be read back from its struct, so two instructions with equal structs are equal.
 #[tactic(auto, using(crate::proofs::ThereAndBack::instr_back_flat))]
 pub fn instructions_come_back()
     ensures { (i : Instr) (len : ℕ) → length i.ops ≡ 4 → instr_back (flat_instr i len) ≡ Some i }
 {}
 
-/// The code of moved instructions ends where their images end and the gap or the slots begin, in each call that moves some: of instructions that follow one
-/// another, of those that keep their targets, and of each block of several.
+/// The images of moved code end where the gap or the slots begin, or with the code. This holds for each call that moves code: consecutive
+/// instructions, instructions that keep their targets, and each of several blocks.
 pub fn code_ends_with_its_images()
     ensures follow { (bits : Bits) (items : List Placed) (new : ℕ) (m : MovedCode) → (moved : AreMoved Follow bits items new m)
         → m.code_len ≡ (images_end (plan_for bits (one_span items new) items) moved.moved.layout 0 - new) % 2 ^ 64 }
@@ -74,15 +74,14 @@ pub fn code_ends_with_its_images()
     block_encoder::laws::plans_lay_out_their_items();
 }
 
-/// The operand that [`encode`](crate::encoding::encode) returns with a cause fails the condition of that cause: it is the first that does. Of an address, a displacement and a
-/// target it is the only one, since no row has two operands that can be memory or a near target.
+/// The operand that [`encode`](crate::encoding::encode) returns with a cause is the first operand that fails the condition of that cause. For an
+/// address, a displacement and a target it is the only one, since no row has two operands that can be memory or a near target.
 pub fn told_operands_fail()
     ensures { (bits : Bits) (ip : ℕ) (row : Row) (i : Instr) (why : NoSpelling) → slice_get table i.code.0 ≡ Some row → encoding bits ip i ≡ Err why
         → IsFailing bits (modulo_width bits ip) row i why }
 {}
 
-/// Each live block of a region starts a multiple of 16 bytes after its base and has a multiple of 16 bytes, and so does each place that is handed out in
-/// it.
+/// Each live block of a region starts a multiple of 16 bytes after the base and has a multiple of 16 bytes. So does each block that is reserved.
 pub fn regions_are_in_units()
     ensures live { (region : FlatRegion) (blocks : List FlatLive) → IsTrue (is_region region blocks) → AreInUnits (region_of region blocks) }
     ensures place { (region : FlatRegion) (blocks : List FlatLive) (len place : ℕ) → IsTrue (is_region region blocks)
@@ -91,7 +90,7 @@ pub fn regions_are_in_units()
     code_region::laws::places_are_gaps();
 }
 
-/// The code of a step at a place that is handed out in a region has no more bytes than [`step_len`](crate::stepping::step_len) returns for the base of that region.
+/// The code of a step at a reserved place of a region is no longer than [`step_len`](crate::stepping::step_len) returns for the base of that region.
 pub fn steps_fit_their_places()
     ensures { (region : FlatRegion) (blocks : List FlatLive) (len place : ℕ) → IsTrue (is_region region blocks)
         → place_answer (region_of region blocks) len ≡ Ok place
@@ -111,7 +110,7 @@ pub fn patches_are_short()
     encoder::laws::spelled_meets_conditions();
 }
 
-/// A jump or a call of a form has at most 16 bytes.
+/// A jump or a call of any form has at most 16 bytes.
 pub fn jumps_are_short()
     ensures { (bits at target form : ℕ) → HasAtMost 16 (jump_answer bits at target form) }
 {
@@ -120,25 +119,25 @@ pub fn jumps_are_short()
     encoder::laws::spelled_meets_conditions();
 }
 
-/// The text of a register has at most 6 bytes, so that a buffer of 7 holds it with the terminating 0.
+/// The text of a register has at most 6 bytes, so a buffer of 7 holds it with the terminating 0.
 pub fn register_texts_are_short()
     ensures registers { (syntax class n : ℕ) → HasAtMost 6 (register_answer syntax class n) }
     ensures segments { (syntax prefix : ℕ) → HasAtMost 6 (segment_answer syntax prefix) }
 {}
 
-/// The name of a feature has at most 10 bytes, so that a buffer of 11 holds it with the terminating 0.
+/// The name of a feature has at most 10 bytes, so a buffer of 11 holds it with the terminating 0.
 pub fn feature_names_are_short()
     ensures { (bit : ℕ) → HasAtMost 10 (feature_answer bit) }
 {}
 
-/// The name of a row has at most 16 bytes, so that a buffer of 17 holds it with the terminating 0.
+/// The name of a row has at most 16 bytes, so a buffer of 17 holds it with the terminating 0.
 pub fn row_names_are_short()
     ensures { (code : ℕ) → HasAtMost 16 (name_answer code) }
 {
     opcode_rows::laws::names_are_words();
 }
 
-/// The notation of the row of a code has at most 64 bytes, so that a buffer of 65 holds it with the terminating 0.
+/// The notation of a row has at most 64 bytes, so a buffer of 65 holds it with the terminating 0.
 #[tactic(auto, unfolding(crate::specs::Answers::notation_answer))]
 pub fn notations_are_short(code: u32)
     ensures { HasAtMost 64 (notation_answer code) }
@@ -151,7 +150,7 @@ pub fn notations_are_short(code: u32)
     }
 }
 
-/// The word of the kind of an operand has at most 5 bytes, so that a buffer of 6 holds it with the terminating 0.
+/// The word of an operand kind has at most 5 bytes, so a buffer of 6 holds it with the terminating 0.
 pub fn kind_words_are_short()
     ensures { (code index : ℕ) → HasAtMost 5 (kind_answer code index) }
 {}
@@ -186,7 +185,7 @@ fn style_texts_are_short(style: Style, bits: Bits, instr: &Instr)
     let _ = text.len();
 }
 
-/// The text of the instruction of a struct has at most 160 bytes, so that a buffer of 161 holds it with the terminating 0.
+/// The text of the instruction of a struct has at most 160 bytes, so a buffer of 161 holds it with the terminating 0.
 #[tactic(auto, unfolding(crate::specs::Answers::instr_text_of))]
 pub fn texts_are_short(bits: u32, syntax: u32, instr: &FlatInstr)
     ensures { HasAtMost 160 (text_answer bits syntax instr.now) }

@@ -64,7 +64,7 @@ fn line_by(
     line_in(bits, style, ip, bytes, place, out)
 }
 
-/// Reads the instruction at the front of some bytes into a struct, writes its text, and returns its length.
+/// Decodes the instruction at the front of some bytes into a struct, writes its text, and returns its length.
 pub fn line(
     bits: u32,
     syntax: u32,
@@ -85,7 +85,7 @@ pub fn line(
     }
 }
 
-/// Writes the text of the instruction at the front of some bytes, and returns its length.
+/// Writes the text of the instruction at the front of some bytes, and returns the length of the instruction.
 pub fn line_text(bits: u32, syntax: u32, ip: u64, bytes: &[u8], out: &mut [u8]) -> i32
     ensures { spec.IsLineText bits syntax ip bytes.now out.old out.new result }
 {

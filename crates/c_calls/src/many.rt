@@ -73,7 +73,7 @@ fn sweep_into(bits: Bits, ip: u64, bytes: &[u8], instrs: &mut [FlatInstr]) -> Sw
     Swept { count, taken: at }
 }
 
-/// Reads many instructions: one item of the sweep of some bytes after another, as many as there are structs for. Returns how many bytes these take.
+/// Decodes consecutive items of some bytes, as many as there are structs for. Returns the number of bytes that these items take.
 pub fn decode_many(
     bits: u32,
     ip: u64,

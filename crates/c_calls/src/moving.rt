@@ -132,7 +132,7 @@ fn move_by(
     put_moved(&answer, out, map)
 }
 
-/// Moves code to another address; a branch to a moved instruction follows it.
+/// Moves code to another address. A branch to a moved instruction follows it.
 pub fn move_code(
     alloc: Global,
     bits: u32,
@@ -158,7 +158,7 @@ pub fn move_code(
     )
 }
 
-/// Moves code to another address; a branch to a moved instruction goes to its old place.
+/// Moves code to another address. A branch to a moved instruction goes to its old address.
 pub fn move_outside(
     alloc: Global,
     bits: u32,

@@ -40,7 +40,7 @@ fn segment_of(prefix: u8) -> Option<Register>
     }
 }
 
-/// Writes the text of the register of a class and a number.
+/// Writes the text of the register with a class and a number.
 #[tactic(auto, unfolding(crate::specs::Answers::text_within))]
 pub fn register_text(syntax: u32, reg_class: u8, reg_number: u8, out: &mut [u8]) -> i32
     ensures said { result ≡ said.count_or_refusal (said.text_within (length out.old) (spec.register_answer syntax reg_class reg_number)) }

@@ -55,7 +55,7 @@ fn offsets_into(bits: Bits, bytes: &[u8], parts: &mut FlatOffsets) -> i32
     }
 }
 
-/// Tells the parts of the instruction at the front of some bytes, and returns its length.
+/// Writes where the parts of the instruction at the front of some bytes lie, and returns its length.
 pub fn offsets(bits: u32, bytes: &[u8], parts: &mut FlatOffsets) -> i32
     ensures { spec.AreOffsetsOf (bits_numbered bits) bytes.now parts.old parts.new result }
 {

@@ -64,7 +64,7 @@ fn reserve_in(region: &mut FlatRegion, blocks: &mut [FlatLive], len: u64, place:
     }
 }
 
-/// Hands out a place in a region.
+/// Reserves a block of a region.
 pub fn reserve(region: &mut FlatRegion, blocks: &mut [FlatLive], len: u64, place: &mut u64) -> i32
     ensures { spec.IsReserve region.old region.new blocks.old blocks.new len place.old place.new result }
 {
@@ -91,7 +91,7 @@ fn release_in(region: &mut FlatRegion, blocks: &mut [FlatLive], place: u64) -> i
     }
 }
 
-/// Ends the live block that starts at an address.
+/// Releases the live block that starts at an address.
 pub fn release(region: &mut FlatRegion, blocks: &mut [FlatLive], place: u64) -> i32
     ensures { spec.IsRelease region.old region.new blocks.old blocks.new place result }
 {
@@ -126,7 +126,7 @@ fn fill_in(
     0
 }
 
-/// Writes bytes at the front of a live block, and INT3 over the rest of it.
+/// Writes bytes to the front of a live block, and INT3 to the rest of it.
 pub fn fill(
     region: &FlatRegion,
     blocks: &[FlatLive],

@@ -144,7 +144,7 @@ fn operand_of_row(code: u32, index: u32) -> Result<RowOperand, Refusal>
     })
 }
 
-/// Writes the word of the kind of an operand of a row, tells its access, and returns how many bytes the word has.
+/// Writes the word for the kind of an operand of a row, stores its access, and returns the length of the word in bytes.
 #[tactic(auto, unfolding(crate::specs::Answers::text_within))]
 pub fn row_operand(code: u32, index: u32, access: &mut u8, kind: &mut [u8]) -> i32
     ensures said { result ≡ said.count_or_refusal (said.text_within (length kind.old) (spec.kind_answer code index)) }

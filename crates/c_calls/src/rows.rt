@@ -22,7 +22,7 @@ pub(crate) fn code_numbered(n: u32) -> Option<Code>
     }
 }
 
-/// Writes the name of a row, and returns how many bytes it has.
+/// Writes the name of a row, and returns its length in bytes.
 #[tactic(auto, unfolding(crate::specs::Answers::name_answer, crate::specs::Answers::text_within))]
 pub fn name(code: u32, out: &mut [u8]) -> i32
     ensures said { result ≡ spec.count_or_refusal (spec.text_within (length out.old) (spec.name_answer code)) }
@@ -34,7 +34,7 @@ pub fn name(code: u32, out: &mut [u8]) -> i32
     }
 }
 
-/// Writes the notation of a row, and returns how many bytes it has.
+/// Writes the notation of a row, and returns its length in bytes.
 #[tactic(auto, unfolding(crate::specs::Answers::notation_answer, crate::specs::Answers::text_within))]
 pub fn notation(code: u32, out: &mut [u8]) -> i32
     ensures said { result ≡ spec.count_or_refusal (spec.text_within (length out.old) (spec.notation_answer code)) }
@@ -46,7 +46,7 @@ pub fn notation(code: u32, out: &mut [u8]) -> i32
     }
 }
 
-/// The code of the `n`-th row of a name.
+/// Returns the code of the `n`-th row with a name.
 pub fn code_of(name: &[u8], n: usize) -> i32
     ensures { spec.IsCodeNamed name.now n result }
 {

@@ -174,7 +174,7 @@ fn put_step(answer: &Result<StepCode, StepRefusal>, out: &mut [u8]) -> i32
     }
 }
 
-/// Writes the code by which the instruction at the front of some bytes is stepped at another place, and returns how many bytes it has.
+/// Writes code that executes, at another address, the instruction at the front of some bytes. Returns the length of that code in bytes.
 pub fn step(
     alloc: Global,
     bits: u32,
@@ -201,7 +201,7 @@ fn step_len_in(bits: Bits, ip: u64, bytes: &[u8], base: u64) -> i32
     }
 }
 
-/// How many bytes [`step`] writes at most for an instruction, at any place that is a multiple of 16 bytes after a base.
+/// Returns an upper bound, in bytes, for the code that [`step`] writes for an instruction at any address that is a multiple of 16 bytes after a base.
 pub fn step_len(bits: u32, ip: u64, bytes: &[u8], base: u64) -> i32
     ensures { spec.IsStepLen (bits_numbered bits) ip bytes.now base result }
 {

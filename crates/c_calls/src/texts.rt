@@ -52,7 +52,7 @@ fn put_style_text(style: Style, bits: Bits, instr: &Instr, out: &mut [u8]) -> i3
     put_text(out, &text)
 }
 
-/// Writes the text of an instruction in a style, and returns how many bytes it has.
+/// Writes the text of an instruction in a style, and returns its length in bytes.
 #[tactic(auto, unfolding(crate::specs::Answers::instr_text_of, crate::specs::Answers::text_within))]
 pub fn text(bits: u32, syntax: u32, instr: &FlatInstr, out: &mut [u8]) -> i32
     ensures said { result ≡ spec.count_or_refusal (spec.text_within (length out.old) (spec.text_answer bits syntax instr.now)) }

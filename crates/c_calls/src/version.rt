@@ -2,14 +2,14 @@
 
 ghost use Rattle.std.specs.Prelude.{◌≡◌};
 
-/// The version: major, minor and patch in a byte each, the last the lowest. The program prints the same by `--version`.
+/// Returns the version, one byte each for major, minor and patch; patch is the lowest byte. `--version` of the program prints the same version.
 pub fn version() -> u32
     ensures { result ≡ 0x000200 }
 {
     0x00_02_00
 }
 
-/// The number of the interface of the calls for C. It rises when a struct, a number or a call changes.
+/// Returns the interface number of the library for C. It rises when a struct, a number or a call changes.
 pub fn interface() -> u32
     ensures { result ≡ 3 }
 {

@@ -9,7 +9,7 @@ use move_goals::Placed;
 use std::marker::Model;
 use x86_values::{Bits, Instr};
 
-/// An instruction of some code.
+/// A decoded instruction of some code, with its address and length.
 #[derive(Clone, Copy, PartialEq, Eq, Debug)]
 pub struct CodeItem {
     /// The address of its first byte.
@@ -21,7 +21,7 @@ pub struct CodeItem {
     ghost formed: { IsTrue (is_well_formed instr) },
 }
 
-/// The instructions of some code in a mode, one behind another.
+/// The decoded instructions of some code, in order. Every byte of the code belongs to one of them.
 #[derive(Drop)]
 pub struct CodeItems {
     pub(crate) bits: Bits,
@@ -39,28 +39,28 @@ impl Model for CodeItems {
 }
 
 impl CodeItems {
-    /// The mode that the code was read in.
+    /// Returns the mode in which the code was decoded.
     pub fn bits(&self) -> Bits
         ensures { result ≡ self.now.bits }
     {
         self.bits
     }
 
-    /// How many instructions there are.
+    /// Returns the number of instructions.
     pub fn len(&self) -> usize
         ensures { result ≡ length self.now.items }
     {
         self.placed.len()
     }
 
-    /// Whether there is none.
+    /// Returns whether there are no instructions.
     pub fn is_empty(&self) -> bool
         ensures { IsTrue result ↔ (length self.now.items ≡ 0) }
     {
         self.placed.is_empty()
     }
 
-    /// The instructions as they are moved: each was read at its address.
+    /// Returns the instructions in the form that `move_blocks` takes. Each was decoded at its address.
     pub fn placed(&self) -> &[Placed]
         ensures items { result.now ≡ self.now.items }
         ensures placed { ArePlaced self.now.bits result.now }
@@ -69,7 +69,7 @@ impl CodeItems {
         &self.placed
     }
 
-    /// The instructions, one behind another.
+    /// Returns an iterator over the instructions in order.
     pub fn iter(&self) -> CodeIter<'_>
         ensures { result.items.now ≡ self.now.items }
     {
@@ -79,7 +79,7 @@ impl CodeItems {
     }
 }
 
-/// The instructions that are left of some code.
+/// The instructions that an iteration has not yet returned.
 #[derive(Clone, Copy, Debug)]
 pub struct CodeIter<'a> {
     items: &'a [Placed],

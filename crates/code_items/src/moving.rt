@@ -19,8 +19,8 @@ use std::marker::Model;
 use thiserror::Error;
 use x86_values::Bits;
 
-/// Why some code is not moved. Where causes stand together the first of these in the order `BadCode`, `TooMany`, `Wraps`, `TooFar` is reported; `Memory` may
-/// stand in place of each.
+/// Why code is not moved. If several causes hold, the first in the order `BadCode`, `TooMany`, `Wraps`, `TooFar` is reported. `Memory` can replace
+/// any of them.
 #[derive(Clone, Copy, PartialEq, Eq, Debug, Error)]
 pub enum MoveCodeError {
     /// No instruction begins at this offset from the first byte, where the one before it ends.
@@ -40,7 +40,7 @@ pub enum MoveCodeError {
     TooFar { at: u64, target: u64 },
 }
 
-/// Some code that was moved: its instructions, and where each went.
+/// Code after a move: the old instructions, and the new bytes and addresses.
 #[derive(Drop)]
 pub struct MovedCode {
     code: CodeItems,
@@ -58,21 +58,21 @@ impl Model for MovedCode {
 }
 
 impl MovedCode {
-    /// The instructions as they were, with their old addresses.
+    /// Returns the instructions as they were, with their old addresses.
     pub fn items(&self) -> &CodeItems
         ensures { result.now ≡ self.now.code }
     {
         &self.code
     }
 
-    /// The moved bytes: the images of the instructions, and where there are slots a gap of at most 7 bytes CC and the slots.
+    /// Returns the new bytes: the images of the instructions, and if there are slots a gap of at most 7 bytes CC and the slots.
     pub fn bytes(&self) -> &[u8]
         ensures { result.now ≡ self.now.moved.bytes }
     {
         self.moved.bytes()
     }
 
-    /// The new address of each instruction.
+    /// Returns the new address of each instruction.
     pub fn starts(&self) -> &[u64]
         ensures starts { result.now ≡ self.now.moved.starts }
         ensures len { length result.now ≡ length self.now.code.items }
@@ -80,7 +80,7 @@ impl MovedCode {
         self.moved.starts()
     }
 
-    /// The form of each instruction.
+    /// Returns the form of each instruction.
     pub fn forms(&self) -> &[Form]
         ensures forms { result.now ≡ self.now.moved.forms }
         ensures len { length result.now ≡ length self.now.code.items }
@@ -88,7 +88,7 @@ impl MovedCode {
         self.moved.forms()
     }
 
-    /// The addresses in the slots, in order.
+    /// Returns the addresses in the slots, in order.
     pub fn slots(&self) -> &[u64]
         ensures { result.now ≡ self.now.moved.slots }
     {
@@ -108,18 +108,27 @@ fn old_pass(bits: Bits, old: u64, bytes: &[u8]) -> Option<u128>
     if passes(bits, end) { Some(end) } else { None }
 }
 
-/// Moves instructions that were read, as one block, to a new address: [`move_block`] of them. `OldOrder` comes where the code passed the address space.
+/// Moves decoded instructions, as one block, to a new address with [`move_block`]. It returns `OldOrder` if the old code extends past the address
+/// space.
 pub fn move_items(alloc: Global, code: &CodeItems, new: u64) -> Result<Moved, MoveError>
     ensures { IsAnswer code.now.bits code.now.items (one_span code.now.items new) result }
 {
     move_block(alloc, code.bits, &code.placed, new)
 }
 
-/// Reads some code at the address `old` and moves it to the address `new`: every branch and every operand at RIP or EIP still reaches what it reached,
-/// or follows it where that is moved too; branches have the forms of the least layout, in which no branch is longer than in any other that reaches all its goals.
+/// Decodes the code at address `old` and moves it to address `new`.
 ///
-/// Refused in this order: at the first byte that begins no instruction; above 65,536 instructions; where the old end, else the new end, passes the
-/// address space of the mode; at the first instruction that does not reach its goal. `Memory` may come at any point.
+/// Every branch and every RIP or EIP operand still reaches its target, or follows the target if that is an instruction of the same code. Branches
+/// take the forms of the least closed layout (docs/closed-layouts.md).
+///
+/// Errors, in this order: `BadCode`: no instruction starts at this offset; the first such offset is reported. `TooMany`: there are more than 65,536
+/// instructions. `Wraps`: the old end, or else the new end, lies past the address space of the mode. `TooFar`: an instruction cannot reach its goal;
+/// the first such instruction is reported. `Memory` can occur at any point.
+///
+/// ```
+/// let moved = move_code(rt.alloc(), Bits::B64, 0x40_1000, &FUNCTION, 0x50_0000)?;
+/// println!(rt; "{} {:x}", moved.bytes().len(), moved.starts()[1])?; // 8 500001
+/// ```
 pub fn move_code(
     alloc: Global,
     bits: Bits,

@@ -12,7 +12,7 @@ use thiserror::Error;
 use x86_values::laws::wrapped_twice;
 use x86_values::{Bits, wrap};
 
-/// Why some code is not read into its instructions.
+/// Why code is not decoded into instructions.
 #[derive(Clone, Copy, PartialEq, Eq, Debug, Error)]
 pub enum ReadError {
     /// No instruction begins at this offset from the first byte, where the one before it ends.
@@ -23,10 +23,16 @@ pub enum ReadError {
     Memory,
 }
 
-/// Reads all instructions of some code, one behind another, each with its address (Intel SDM volume 2, 2.1 to 2.3).
+/// Decodes all instructions of some code, one after another, each with its address (Intel SDM volume 2, 2.1 to 2.3).
 ///
-/// `ip` is the address of the first byte. Addresses are taken modulo 2 to the number of bits of the mode. `BadCode` tells the first offset where no
-/// instruction begins; `Memory` may come at any point.
+/// `ip` is the address of the first byte. Addresses wrap at the address size of the mode.
+///
+/// Errors: `BadCode` reports the first offset at which no instruction starts. `Memory` can occur at any point.
+///
+/// ```
+/// let items = read_items(rt.alloc(), Bits::B64, 0x40_1000, &FUNCTION)?;
+/// println!(rt; "{} instructions", items.len())?; // 5 instructions
+/// ```
 pub fn read_items(alloc: Global, bits: Bits, ip: u64, bytes: &[u8]) -> Result<CodeItems, ReadError>
     ensures { MatchResult result (λ list. HasItems bits ip bytes.now list) (λ why. IsReadRefusal bits ip bytes.now why) }
 {

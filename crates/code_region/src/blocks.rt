@@ -29,10 +29,18 @@ const MAX_SIZE: u64 = 1_048_576;
 /// The greatest number of live blocks.
 const MAX_BLOCKS: u64 = 65_536;
 
-/// A fixed range of addresses in which blocks of code find a place.
+/// A fixed range of addresses that holds blocks of code.
 ///
-/// Each block takes a multiple of 16 bytes at the front of the first gap, by address, that is long enough. Bytes that
-/// are no content of a live block are CC (INT3). All memory is taken by [`Region::make`].
+/// Each block takes a multiple of 16 bytes, at the front of the first gap (by address) that is long enough. Bytes outside the contents of live blocks
+/// are CC (INT3). [`Region::make`] allocates all memory; no other call allocates.
+///
+/// ```
+/// let mut region = Region::make(rt.alloc(), 0x50_0000, 4096, 16)?;
+/// let place = region.place(20)?;
+/// region.try_fill(place, b"\x90\xc3")?;
+/// println!(rt; "{place:x} {}", region.block_count())?; // 500000 1
+/// region.release(place)?;
+/// ```
 #[derive(Drop)]
 pub struct Region {
     base: u64,
@@ -54,7 +62,7 @@ impl Model for Region {
     ghost invariant = { λ r. IsKept r.base r.max_blocks r.bytes.items r.spans.items (vec_capacity r.spans) × IsTight r.packed r.spans.items };
 }
 
-/// Why a region of this size and with room for so many blocks is refused, if it is; memory is another matter.
+/// Returns why a region of this size and block count is refused, or None. Lack of memory is not considered.
 #[tactic(auto, using(std::proofs::lemmas::Bool::Decides::nat_tests), unfolding(crate::specs::Opening::open_refusal))]
 pub fn open_refusal(base: u64, size: u64, max_blocks: u64) -> Option<OpenError>
     ensures { result ≡ open_refusal base size max_blocks }
@@ -72,7 +80,7 @@ pub fn open_refusal(base: u64, size: u64, max_blocks: u64) -> Option<OpenError>
     None
 }
 
-/// A length rounded up to a multiple of the unit; one that rounds to no `u64` counts as the last multiple.
+/// Rounds a length up to a multiple of the unit. A length whose multiple exceeds `u64` becomes the last multiple.
 #[inline]
 pub fn round_up(len: u64) -> u64
     ensures { result ≡ len_in_units len }
@@ -98,10 +106,10 @@ fn insert_span(spans: &mut Vec<Span>, index: usize, span: Span)
 }
 
 impl Region {
-    /// Makes a region of `size` bytes from the address `base` on, with room for `max_blocks` live blocks, and none yet.
+    /// Makes a region of `size` bytes at the address `base`, for up to `max_blocks` live blocks. It has no live blocks yet.
     ///
-    /// Refused, in this order: a size that is 0, no multiple of 16 or above 1,048,576; room for 0 blocks or above
-    /// 65,536; a region that ends behind 2 to the 64th; and at any point where there is no memory.
+    /// Errors, in this order: the size is 0, not a multiple of 16, or above 1,048,576; `max_blocks` is 0 or above 65,536; the region ends past 2^64.
+    /// Lack of memory can occur at any point.
     pub fn make(alloc: Global, base: u64, size: u64, max_blocks: u64) -> Result<Region, OpenError>
         ensures refused { IfSome (open_refusal base size max_blocks) (λ refusal. result ≡ Err refusal) }
         ensures cause { IfErr result (λ error. (open_refusal base size max_blocks ≡ Some error) ⊎ (error ≡ OpenError.Memory)) }
@@ -125,11 +133,10 @@ impl Region {
         })
     }
 
-    /// Hands out a place for `len` bytes, rounded up to a multiple of 16: the front of the first gap, by address, that
-    /// is so long.
+    /// Reserves a block of `len` bytes, rounded up to a multiple of 16, and returns its address: the front of the first gap, by address, that is long
+    /// enough.
     ///
-    /// Refused, in this order and with nothing changed: a length of 0; as many live blocks as there is room for; no gap
-    /// of the rounded length.
+    /// Errors, in this order; each leaves the region unchanged: the length is 0; the maximum number of blocks is live; no gap is long enough.
     pub fn place(&mut self, len: u64) -> Result<u64, PlaceError>
         ensures answer { result ≡ place_answer self.old len }
         ensures state { self.new ≡ after_place self.old len }
@@ -165,9 +172,9 @@ impl Region {
         }
     }
 
-    /// Ends the live block that starts at `place`, and sets its bytes to CC.
+    /// Releases the live block that starts at `place`, and sets its bytes to CC.
     ///
-    /// Refused, with nothing changed, exactly where no live block starts there.
+    /// Fails exactly if no live block starts there, and then changes nothing.
     pub fn release(&mut self, place: u64) -> Result<(), NotTaken>
         ensures answer { result ≡ release_answer self.old place }
         ensures state { self.new ≡ after_release self.old place }
@@ -182,9 +189,9 @@ impl Region {
         Ok(())
     }
 
-    /// Writes `bytes` at the front of the live block that starts at `place`, and CC over the rest of the block.
+    /// Writes `bytes` to the front of the live block that starts at `place`, and CC to the rest of the block.
     ///
-    /// A live block starts there, and the bytes are no more than its rounded length.
+    /// A live block must start there, and the bytes must fit its rounded length. [`try_fill`](Region::try_fill) requires neither.
     pub fn fill(&mut self, place: u64, bytes: &[u8])
         requires { IsTrue (can_fill self.old place (length bytes.now)) }
         ensures { self.new ≡ after_fill self.old place bytes.now }
@@ -192,9 +199,9 @@ impl Region {
         self.set_content(place, Content::Bytes(bytes));
     }
 
-    /// Writes `bytes` at the front of the live block that starts at `place`, and CC over the rest of the block, where both are so.
+    /// Writes `bytes` to the front of the live block that starts at `place`, and CC to the rest of the block.
     ///
-    /// Refused with nothing changed: first where no live block starts there, then where the bytes are more than its rounded length.
+    /// Errors, in this order; each leaves the region unchanged: no live block starts there; the bytes do not fit its rounded length.
     pub fn try_fill(&mut self, place: u64, bytes: &[u8]) -> Result<(), FillError>
         ensures answer { result ≡ fill_answer (live_block self.old place) place (length bytes.now) }
         ensures ok { OnOk result (self.new ≡ after_fill self.old place bytes.now) }
@@ -266,14 +273,14 @@ impl Region {
         }
     }
 
-    /// The bytes of the region: the contents of the live blocks, and CC elsewhere.
+    /// Returns the bytes of the region: the contents of the live blocks, and CC elsewhere.
     pub fn image(&self) -> &[u8]
         ensures { result.now ≡ region_image self.now }
     {
         &self.bytes
     }
 
-    /// How many blocks are live.
+    /// Returns the number of live blocks.
     pub fn block_count(&self) -> u64
         ensures count { result ≡ length self.now.live }
         ensures sound { IsSound self.now }
@@ -281,9 +288,9 @@ impl Region {
         self.spans.len() as u64
     }
 
-    /// The place and the rounded length of the live block of this index, by address.
+    /// Returns the address and the rounded length of a live block by its index, in the order of addresses.
     ///
-    /// The index is below [`block_count`](Self::block_count).
+    /// The index must be below [`block_count`](Self::block_count).
     pub fn block_at(&self, i: u64) -> (u64, u64)
         requires { i < length self.now.live }
         ensures { slice_get (map place_and_len self.now.live) i ≡ Some result }

@@ -6,7 +6,7 @@ ghost use Rattle.code_region.specs.Running.{place_reply, release_reply, run, rep
 use crate::blocks::Region;
 use crate::refusals::{NotTaken, PlaceError};
 
-/// One command to a region.
+/// A command to a region.
 #[derive(Clone, Copy, PartialEq, Eq, Debug)]
 pub enum Command {
     /// Hand out a place of `len` bytes, as [`Region::place`](crate::Region::place) does.
@@ -17,7 +17,7 @@ pub enum Command {
     Fill { place: u64, byte: u8, count: u64 },
 }
 
-/// The reply to one command.
+/// The reply to a command.
 #[derive(Clone, Copy, PartialEq, Eq, Debug)]
 pub enum Reply {
     /// A block is live at `place`.
@@ -62,9 +62,9 @@ pub(crate) fn reply_to_release(answer: Result<(), NotTaken>) -> Reply
     }
 }
 
-/// Does these commands, in order, and writes the reply to each.
+/// Executes commands in order, and writes the reply to each.
 ///
-/// There is room for as many replies as there are commands. No memory is taken.
+/// `replies` must be as long as `commands`. It allocates nothing.
 pub fn replay(region: &mut Region, commands: &[Command], replies: &mut [Reply])
     requires { length replies.old ≡ length commands.now }
     ensures state { region.new ≡ run region.old commands.now }

@@ -5,10 +5,10 @@ ghost use Rattle.code_region.specs.Keeping.{with_bytes_at};
 ghost use Rattle.code_region.specs.State.{int3};
 ghost use Rattle.code_region.specs.Contents.{content_bytes};
 
-/// The byte of INT3, which stands wherever no content does.
+/// The byte of INT3. It fills everything outside contents.
 pub const INT3: u8 = 0xCC;
 
-/// What a live block is to hold at its front.
+/// The content at the front of a live block.
 #[derive(Clone, Copy)]
 pub enum Content<'a> {
     /// These bytes.
@@ -17,7 +17,7 @@ pub enum Content<'a> {
     Repeated { byte: u8, count: usize },
 }
 
-/// Writes INT3 over the `len` bytes from `start` on.
+/// Writes INT3 to the `len` bytes at `start`.
 pub fn erase(image: &mut [u8], start: usize, len: usize)
     requires { start + len ≤ length image.old }
     ensures { image.new ≡ with_bytes_at image.old start (replicate len int3) }
@@ -25,7 +25,7 @@ pub fn erase(image: &mut [u8], start: usize, len: usize)
     image[start..start + len].fill(INT3);
 }
 
-/// Writes `content` at `start`, and INT3 over the rest of the `len` bytes from there.
+/// Writes `content` at `start`, and INT3 to the rest of the `len` bytes.
 pub fn write_bytes(image: &mut [u8], start: usize, len: usize, content: &[u8])
     requires inside { start + len ≤ length image.old }
     requires fits { length content.now ≤ len }
@@ -45,7 +45,7 @@ fn repeat(image: &mut [u8], start: usize, len: usize, byte: u8, count: usize)
     erase(image, start + count, len - count);
 }
 
-/// Writes `content` at `start`, and INT3 over the rest of the `len` bytes from there.
+/// Writes `content` at `start`, and INT3 to the rest of the `len` bytes.
 pub fn write(image: &mut [u8], start: usize, len: usize, content: Content<'_>)
     requires inside { start + len ≤ length image.old }
     requires fits { length (content_bytes content) ≤ len }

@@ -4,14 +4,14 @@ ghost use Rattle.std.specs.Prelude.{◌≡◌, ◌==◌, ◌+◌, ◌-◌, ◌^�
 ghost use Rattle.code_region.specs.Keeping.{AreApart, IsTight};
 ghost use Rattle.code_region.specs.Searching.{IsSearched, IsAt, IsNowhere, end_from};
 
-/// A stretch of a region: the offset of its first byte from the region's start, and its length, both in bytes.
+/// Consecutive bytes of a region: the offset of the first byte from the region's start, and the length in bytes.
 #[derive(Clone, Copy)]
 pub struct Span {
     pub start: u32,
     pub len: u32,
 }
 
-/// What a search for a gap found.
+/// The result of a search for a gap.
 #[derive(Clone, Copy)]
 pub enum Search {
     /// The gap before the stretch of this index, by address, is the first that is long enough, and it begins at this
@@ -51,8 +51,7 @@ fn packed_with(packed: usize, index: usize, largest: u32) -> usize
     if largest == 0 { index + 1 } else { packed }
 }
 
-/// Looks for the first gap of `needed` bytes between these stretches, which end at `limit` or before. The first
-/// `packed` of them have no gap before them.
+/// Searches for the first gap of `needed` bytes between spans that end at or before `limit`. The first `packed` spans have no gap before them.
 pub fn first_fit(spans: &[Span], packed: usize, limit: u32, needed: u64) -> Search
     requires apart { AreApart 0 limit spans.now }
     requires tight { IsTight packed spans.now }
@@ -88,7 +87,7 @@ pub fn first_fit(spans: &[Span], packed: usize, limit: u32, needed: u64) -> Sear
     }
 }
 
-/// Finds the stretch that starts at the address `place`, in a region that starts at `base`.
+/// Finds the span that starts at the address `place` in a region that starts at `base`.
 pub fn find_place(spans: &[Span], base: u64, place: u64) -> Option<usize>
     requires { AreApart 0 (2 ^ 64 - base) spans.now }
     ensures found { IfSome result (λ index. IsAt base place spans.now index) }

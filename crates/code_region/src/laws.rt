@@ -12,8 +12,7 @@ ghost use Rattle.code_region.specs.Keeping.{IsSound};
 ghost use Rattle.code_region.specs.Facts.{PlaceFacts, RegionFacts};
 ghost use Rattle.code_region.specs.Laws.{AreInside, AreDisjoint, AreInUnits, HoldsContents, Restores};
 
-/// A region is sound as it begins, and stays so with each request for a place, each release and each fill, whatever the bytes: so also after any list
-/// of commands.
+/// A new region is sound. Each reservation, release and fill, with any bytes, keeps it sound, and so does any list of commands.
 pub fn regions_stay_sound()
     ensures opened { (base size max_blocks : ℕ) → IsSound (empty_region base size max_blocks) }
     ensures placed { (state : RegionState) (len : ℕ) → IsSound state → IsSound (after_place state len) }
@@ -22,18 +21,18 @@ pub fn regions_stay_sound()
     ensures run { (state : RegionState) (commands : List Command) → IsSound state → IsSound (run state commands) }
 {}
 
-/// In a sound region each live block is inside the region.
+/// In a sound region each live block lies inside the region.
 pub fn live_blocks_stay_inside()
     ensures { (state : RegionState) → IsSound state → AreInside state }
 {}
 
-/// In a sound region no live block stands over another.
+/// In a sound region no two live blocks overlap.
 pub fn live_blocks_stay_disjoint()
     ensures { (state : RegionState) → IsSound state → AreDisjoint state }
 {}
 
-/// Each live block stands a multiple of 16 bytes behind the base, and takes a multiple of 16 bytes: this holds of a region as it begins, and stays so with
-/// each request for a place, each release, each fill and each list of commands.
+/// Each live block starts a multiple of 16 bytes after the base and has a multiple of 16 bytes. A new region has this property, and each reservation,
+/// release, fill and list of commands keeps it.
 pub fn live_blocks_stay_in_units()
     ensures opened { (base size max_blocks : ℕ) → AreInUnits (empty_region base size max_blocks) }
     ensures placed { (state : RegionState) (len : ℕ) → IsSound state → AreInUnits state → AreInUnits (after_place state len) }
@@ -42,25 +41,24 @@ pub fn live_blocks_stay_in_units()
     ensures run { (state : RegionState) (commands : List Command) → IsSound state → AreInUnits state → AreInUnits (run state commands) }
 {}
 
-/// The image of a sound region has the content of each live block at its place, and INT3 elsewhere.
+/// The image of a sound region has the content of each live block at its address, and INT3 elsewhere.
 pub fn image_holds_contents()
     ensures { (state : RegionState) → IsSound state → HoldsContents state (region_image state) }
 {}
 
-/// In a sound region, a place that is handed out and released at once leaves blocks and bytes as they were,
-/// and the same request is answered with the same place again.
+/// In a sound region, a block that is reserved and released at once leaves blocks and bytes unchanged, and the next equal request returns the same
+/// address.
 pub fn release_restores()
     ensures { (state : RegionState) (len place : ℕ) → IsSound state → place_answer state len ≡ Ok place → Restores state len place }
 {}
 
-/// A place is handed out only where a gap is long enough: no live block starts there, and the new one ends inside the region and stands in units of 16
-/// bytes, as the live blocks do.
+/// A block is reserved only in a gap that is long enough: no live block starts there, and the new block lies inside the region, in units of 16 bytes.
 #[inline]
 pub fn places_are_gaps()
     ensures { PlaceFacts }
 {}
 
-/// The laws of sound regions as one record.
+/// The laws of sound regions, as one record.
 #[inline]
 pub fn sound_regions_keep_their_laws()
     ensures { RegionFacts }

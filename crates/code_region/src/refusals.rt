@@ -19,7 +19,7 @@ pub enum OpenError {
     Memory,
 }
 
-/// Why no place is handed out.
+/// Why no block is reserved.
 #[derive(Clone, Copy, PartialEq, Eq, Debug, Error)]
 pub enum PlaceError {
     /// The length is 0.

@@ -6,7 +6,7 @@ use arrayvec::ArrayVec;
 use text_parts::style::Style;
 use x86_values::Bits;
 
-/// What a command line asks for.
+/// A command of the command line, with its values.
 #[derive(Drop)]
 pub enum Command {
     /// The help text.
@@ -79,8 +79,8 @@ pub enum Command {
     },
 }
 
-/// A block of code as the words name it: the old address of its first byte, its new one, and how many bytes of the input
-/// it takes; the last block takes the rest.
+/// A block of code as its words give it: the old address of the first byte, the new address, and the number of input bytes. The last block takes the
+/// rest of the input.
 #[derive(Clone, Copy, Default)]
 pub struct BlockWords {
     pub old: u64,
@@ -88,8 +88,8 @@ pub struct BlockWords {
     pub len: Option<u64>,
 }
 
-/// A command that goes through code, or makes it, by its name alone. The words behind the name begin with `BITS BASE`; their values, which a
-/// `Command` has, are known only once all words were read.
+/// A command that reads code, or makes it, known by its name alone. Its words begin with `BITS BASE`. Their values are known only after all words are
+/// read, as a `Command`.
 #[derive(Clone, Copy)]
 pub enum Through {
     List,

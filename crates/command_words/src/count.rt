@@ -5,7 +5,7 @@ ghost use Rattle.command_words.specs.Counts.{count_word};
 
 use std::marker::Model;
 
-/// A number of instructions to make: 1 to 65,536.
+/// A number of instructions for `sample`: 1 to 65,536.
 #[derive(Clone, Copy)]
 pub struct SampleCount {
     count: u32,
@@ -25,7 +25,7 @@ impl Model for SampleCount {
 }
 
 impl SampleCount {
-    /// The number, where it is 1 to 65,536.
+    /// Returns the number if it is 1 to 65,536.
     #[tactic(auto, unfolding(crate::specs::Counts::count_word))]
     pub fn new(count: u64) -> Option<SampleCount>
         ensures { result ≡ count_word count }
@@ -39,7 +39,7 @@ impl SampleCount {
         }
     }
 
-    /// The number.
+    /// Returns the number.
     #[inline]
     pub fn get(&self) -> u32
         ensures value { result ≡ self.now }

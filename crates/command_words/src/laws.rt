@@ -5,9 +5,9 @@ ghost use Rattle.command_words.specs.declared.commands.Command.TheVariants.{Wron
 ghost use Rattle.command_words.specs.Words.{command_of};
 ghost use Rattle.command_words.specs.Refused.{IsFirstWrong, HasNoRoom};
 
-/// A refusal names the first wrong word: the words before it begin some allowed command line, and those up to it begin none, or the line ends before it.
-/// There is one such word where a line is not allowed, and none where it is. Only where `slots` has a `REGION` behind which no 16 bytes are left,
-/// the word behind that is named, since each of the words before it is allowed by itself.
+/// A refusal names the first wrong word: the words before it begin some allowed command line, and the words up to it begin none, or the line ends
+/// before it. A refused line has exactly one such word, an allowed line has none. There is one exception: if fewer than 16 bytes remain after the
+/// `REGION` of `slots`, the refusal names the next word, since each earlier word is allowed by itself.
 #[inline]
 pub fn refusals_name_the_first_wrong_word()
     ensures first { (words : List (List ℕ)) (word : ℕ) → (HasNoRoom words → ⊥) → (command_of words ≡ Wrong word) ↔ IsFirstWrong words word }

@@ -7,7 +7,7 @@ ghost use Rattle.command_words.specs.Ranges.{is_range, range_of, IsRange};
 use std::marker::Model;
 use x86_values::Bits;
 
-/// A range of addresses of a mode: 16 to 1,048,576 bytes, in units of 16, inside the address space of the mode.
+/// A range of addresses for slots: 16 to 1,048,576 bytes, in units of 16, inside the address space of a mode.
 #[derive(Clone, Copy)]
 pub struct SlotRange {
     bits: Bits,
@@ -50,7 +50,7 @@ fn is_slot_range(bits: Bits, base: u64, size: u64) -> bool
 }
 
 impl SlotRange {
-    /// The range of `size` bytes from the address `base` on, where it is one.
+    /// Returns the range of `size` bytes at the address `base`, if it is a valid range.
     #[tactic(auto, unfolding(crate::specs::Ranges::range_of))]
     pub fn new(bits: Bits, base: u64, size: u64) -> Option<SlotRange>
         ensures { result ≡ range_of bits base size }
@@ -62,7 +62,7 @@ impl SlotRange {
         }
     }
 
-    /// The mode.
+    /// Returns the mode.
     #[inline]
     pub fn bits(&self) -> Bits
         ensures value { result ≡ self.now.bits }
@@ -71,7 +71,7 @@ impl SlotRange {
         self.bits
     }
 
-    /// The first address.
+    /// Returns the first address.
     #[inline]
     pub fn base(&self) -> u64
         ensures value { result ≡ self.now.base }
@@ -80,7 +80,7 @@ impl SlotRange {
         self.base
     }
 
-    /// How many bytes it has.
+    /// Returns the size in bytes.
     #[inline]
     pub fn size(&self) -> u64
         ensures { result ≡ self.now.size }

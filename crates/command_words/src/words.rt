@@ -465,7 +465,7 @@ fn sample_words(words: &[&str]) -> Command
     }
 }
 
-/// The command of some words, or the first word that is not allowed, missing or too many.
+/// Returns the command that some words stand for, or the first word that is not allowed, missing or superfluous.
 #[tactic(auto, unfolding(crate::specs::Words::command_of))]
 pub fn command_of(words: &[&str]) -> Command
     ensures { result ≡ spec.command_of (spec.texts words.now) }

@@ -13,7 +13,18 @@ use std::marker::Brand;
 use std::sync::ledger::Blank;
 use x86_values::{Bits, Decoded};
 
-/// Reads the instruction at the front of some bytes at an address, in a mode that is a value, with the answers and errors of [`decode`](crate::decode).
+/// Decodes the instruction at the front of some bytes, in a mode that is known at run time. Results and errors are those of
+/// [`decode`](crate::decode).
+///
+/// ```
+/// let read = decode_in(Bits::B64, 0x40_1000, b"\x48\x89\xe5\xc3")?;
+/// let instr = read.instr;
+/// let text = Intel {
+///     bits: Bits::B64,
+///     instr,
+/// };
+/// println!(rt; "{} bytes: {text}", read.len)?; // 3 bytes: mov rbp, rsp
+/// ```
 pub fn decode_in(bits: Bits, ip: u64, bytes: &[u8]) -> Result<Decoded, DecodeError>
     ensures reading { IsRead bits ip bytes.now (reading_of result) }
     ensures length { IfOk result (λ d. (0 < d.len) × (d.len ≤ 15) × (d.len ≤ length bytes.now)) }
@@ -27,7 +38,7 @@ pub fn decode_in(bits: Bits, ip: u64, bytes: &[u8]) -> Result<Decoded, DecodeErr
     }
 }
 
-/// Reads as [`decode_in`], and writes the instruction to `out`. After an error `out` holds no instruction.
+/// Decodes like [`decode_in`], but writes the instruction to `out`, which saves a copy. After an error `out` holds no instruction.
 #[inline(always)]
 pub fn decode_onto(bits: Bits, ip: u64, bytes: &[u8], out: &mut Decoded) -> Result<(), DecodeError>
     ensures reading { IsRead bits ip bytes.now (reading_of (answer_in result out.new)) }

@@ -14,7 +14,14 @@ use prefixes::mode_of;
 use std::marker::Model;
 use x86_values::{Decoded, wrap};
 
-/// Reads instructions one behind another from some bytes, in the mode `BITS`: 16, 32 or 64.
+/// Decodes consecutive instructions of some bytes. `BITS` is the mode: 16, 32 or 64.
+///
+/// ```
+/// let mut decoder = Decoder::<64>::new(b"\x55\xe8\xf6\x0f\x00\x00", 0x40_1000);
+/// let push = decoder.decode()?;
+/// let call = decoder.decode()?;
+/// println!(rt; "{} {} {:x}", push.len, call.len, decoder.ip())?; // 1 5 401006
+/// ```
 #[derive(Drop)]
 pub struct Decoder<'a, const BITS: u32> {
     bytes: &'a [u8],
@@ -31,7 +38,7 @@ impl<'a, const BITS: u32> Model for Decoder<'a, BITS> {
 }
 
 impl<'a, const BITS: u32> Decoder<'a, BITS> {
-    /// A decoder at the first of some bytes, whose address is `ip`.
+    /// Makes a decoder at the first byte, whose address is `ip`.
     pub fn new(bytes: &'a [u8], ip: u64) -> Self
         ensures { result ≡ record { bytes = bytes.now; ip = ip; position = 0 } }
     {
@@ -42,7 +49,7 @@ impl<'a, const BITS: u32> Decoder<'a, BITS> {
         }
     }
 
-    /// The number of bytes before the next one that is read.
+    /// Returns the offset of the next byte to decode.
     #[inline]
     pub fn position(&self) -> usize
         ensures value { result ≡ self.now.position }
@@ -51,7 +58,7 @@ impl<'a, const BITS: u32> Decoder<'a, BITS> {
         self.position
     }
 
-    /// The address of the next byte that is read: `ip` of the first byte and the position modulo 2 to the number of bits of the mode.
+    /// Returns the address of the next byte to decode. Addresses wrap at the address size of the mode.
     #[inline]
     pub fn ip(&self) -> u64
         ensures { result ≡ modulo_width (mode_of BITS) (self.now.ip + self.now.position) }
@@ -60,7 +67,7 @@ impl<'a, const BITS: u32> Decoder<'a, BITS> {
         wrap(mode_of::<BITS>(), address)
     }
 
-    /// Whether bytes are left to read.
+    /// Returns whether bytes remain.
     #[inline]
     pub fn can_decode(&self) -> bool
         ensures { IsTrue result ↔ (self.now.position < length self.now.bytes) }
@@ -68,7 +75,7 @@ impl<'a, const BITS: u32> Decoder<'a, BITS> {
         self.position < self.bytes.len()
     }
 
-    /// Goes to the place behind the first `p` bytes, of which there are as many.
+    /// Moves to offset `p`, which must be at most the number of bytes.
     #[inline]
     pub fn set_position(&mut self, p: usize)
         requires { p ≤ length self.old.bytes }
@@ -77,7 +84,7 @@ impl<'a, const BITS: u32> Decoder<'a, BITS> {
         self.position = p;
     }
 
-    /// Passes over `n` bytes, which are there.
+    /// Skips `n` bytes, which must be there.
     #[inline]
     pub fn skip(&mut self, n: usize)
         requires { self.old.position + n ≤ length self.old.bytes }
@@ -86,10 +93,10 @@ impl<'a, const BITS: u32> Decoder<'a, BITS> {
         self.position += n;
     }
 
-    /// The instruction at the position, whose address is `ip` and the position modulo 2 to the number of bits of the mode.
+    /// Decodes the instruction at the current position, and advances by its length.
     ///
-    /// The position moves on by its length. Where no instruction is read it stays.
-    /// At the end of the bytes the answer is `TooShort`; otherwise it is that of `decode`, and so the only instruction that the bytes there begin with.
+    /// The address of the instruction is [`ip`](Self::ip). After an error the position does not change. At the end of the bytes the error is
+    /// `TooShort`; otherwise results and errors are those of `decode`.
     pub fn decode(&mut self) -> Result<Decoded, DecodeError>
         requires { IsTrue (is_mode BITS) }
         ensures reading { IsRead (mode_of BITS) (self.old.ip + self.old.position)

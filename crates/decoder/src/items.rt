@@ -8,7 +8,7 @@ use crate::DecodeError;
 use crate::by_mode::decode_in;
 use x86_values::{Bits, Decoded, wrap};
 
-/// An instruction that stands among some bytes, or a single byte where none is read.
+/// An instruction among some bytes, or a single byte that starts none.
 #[derive(Clone, Copy, PartialEq, Eq, Debug)]
 pub struct Item<'a> {
     /// The address of the first byte.
@@ -20,7 +20,18 @@ pub struct Item<'a> {
     ghost formed: { ForOk reading (λ d. IsTrue (is_well_formed d.instr)) },
 }
 
-/// Reads some bytes item by item: an instruction, and behind it what follows its last byte; where none is read a single byte.
+/// Iterates over some bytes item by item. If an instruction starts at the current byte, the item is that instruction and the next item follows it.
+/// Otherwise the item is a single byte.
+///
+/// ```
+/// // push rbp, a byte that starts no instruction in 64-bit mode, ret
+/// for item in Items::new(Bits::B64, 0x40_1000, b"\x55\x06\xc3") {
+///     match item.reading {
+///         Ok(read) => println!(rt; "{:x} {}", item.ip, read.len)?, // 401000 1, 401002 1
+///         Err(why) => println!(rt; "{:x} {why}", item.ip)?,
+///     }
+/// }
+/// ```
 #[derive(Clone, Copy, Debug)]
 pub struct Items<'a> {
     /// The mode.
@@ -32,7 +43,7 @@ pub struct Items<'a> {
 }
 
 impl<'a> Items<'a> {
-    /// The items of some bytes, the first of which has the address `ip`.
+    /// Makes an iterator over the items of some bytes. The first byte has the address `ip`.
     pub fn new(bits: Bits, ip: u64, bytes: &'a [u8]) -> Self
         ensures mode { result.bits ≡ bits }
         ensures address { result.ip ≡ ip }

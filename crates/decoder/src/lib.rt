@@ -20,7 +20,7 @@ pub use opcode_rows::unique_spelling::laws;
 pub use reading::{decode, decode_counted};
 use thiserror::Error;
 
-/// Why bytes are not read as an instruction.
+/// Why bytes do not decode to an instruction.
 #[derive(Clone, Copy, PartialEq, Eq, Debug, Error)]
 pub enum DecodeError {
     /// The bytes begin with no instruction, and more bytes behind them make none.

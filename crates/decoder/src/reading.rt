@@ -22,14 +22,13 @@ use std::sync::ledger::{Blank, Ledger};
 use step_count::Steps;
 use x86_values::{Bits, Decoded, wrap};
 
-/// The instruction at the front of the bytes, with its length in bytes, 1 to 15.
+/// Decodes the instruction at the front of the bytes. Returns it with its length in bytes, 1 to 15.
 ///
-/// `BITS` is the mode: 16, 32 or 64. `ip` is the address of the first byte, taken modulo 2 to the number of bits of the mode.
-/// No other instruction and no other length is spelled by the bytes.
+/// `BITS` is the mode: 16, 32 or 64. `ip` is the address of the first byte; it wraps at the address size of the mode. The bytes spell no other
+/// instruction and no other length.
 ///
-/// `TooShort` where no bytes at the front are an instruction, fewer than 15 are given, and they end before their opcode byte
-/// or more bytes behind them make an instruction. `Invalid` where no bytes at the front are an instruction otherwise
-/// (Intel SDM volume 2, 2.1 to 2.3).
+/// Errors: `TooShort`: no instruction starts here yet, fewer than 15 bytes are given, and they end before the opcode byte, or more bytes could
+/// complete an instruction. `Invalid`: no instruction starts here, whatever follows (Intel SDM volume 2, 2.1 to 2.3).
 // Built into its callers, which take the result apart: so it is not copied once more.
 #[inline(always)]
 pub fn decode<const BITS: u32>(ip: u64, bytes: &[u8]) -> Result<Decoded, DecodeError>
@@ -73,9 +72,9 @@ pub(crate) fn read_uncounted<L: Ledger>(
     }
 }
 
-/// Reads the instruction at the front of some bytes, and counts each look-up of a row or in a node as a step.
+/// Decodes like [`decode`], and counts each look-up of a row and each look-up in a node as a step.
 ///
-/// An instruction takes 3 to 12 steps. An error takes at most 12, and one for each row that stands where the front says, if there is one.
+/// An instruction takes 3 to 12 steps. An error takes at most 12, plus one for each row of the opcode byte, if there is one.
 pub fn decode_counted<const BITS: u32, L: Ledger>(
     ip: u64,
     bytes: &[u8],

@@ -7,7 +7,7 @@ use decoder::DecodeError;
 use std::alloc::{AllocError, AllocFailed};
 use thiserror::Error;
 
-/// Why there is no detour. Where causes stand together the first of these behind `Memory` is reported; `Memory` may stand in place of each.
+/// Why a function gets no detour. If several causes hold, the first after `Memory` is reported. `Memory` can replace any of them.
 ///
 /// Offsets count from the function's first byte.
 #[derive(Clone, Copy, PartialEq, Eq, Debug, Error)]

@@ -328,20 +328,38 @@ fn detour_by(
     }
 }
 
-/// A detour of a function by a jump over its first bytes to a replacement, with a trampoline that does what they did and goes on behind them.
+/// Makes a detour of a function: a patch that jumps to a replacement, and a trampoline that does what the overwritten instructions did and continues
+/// after them.
 ///
-/// `code` is the function's bytes from its first one on, which has the address `ip`; `to` is the address of the replacement; at `place` the trampoline
-/// will stand. `ip` and `to` are taken modulo 2 to the number of bits of the mode.
+/// `code` is the function, from its first byte, whose address is `ip`. `to` is the address of the replacement. `place` is the address of the
+/// trampoline. `ip` and `to` wrap at the address size of the mode.
 ///
-/// The jump is the first of these that reaches: the near jump of the mode; in 64-bit mode the near jump to a relay behind the trampoline; the jump of 14
-/// bytes through an address behind it. Taken are the first instructions of `code`, as few as have at least the bytes of the jump; behind one that never
-/// goes on (RET, JMP, UD2) only padding is: NOP of any length, and INT3. The patch replaces them. The trampoline has the moved instructions, padding
-/// apart, then a jump back behind what was taken unless the last of them never goes on, in the least layout, and behind that gap, slots and relay. A
-/// target where a moved instruction begins goes with it, that of the first one as `start` says, and every other stays.
+/// The jump is the first of these that reaches: the near jump of the mode; in 64-bit mode, the near jump to a relay after the trampoline; a jump of
+/// 14 bytes through an address that follows it. The detour takes the fewest first instructions that cover the jump. After an instruction that does
+/// not continue (RET, JMP, UD2) it takes only padding: NOP of any length, and INT3. The patch replaces them.
 ///
-/// Refused, in this order: a byte of the part to be taken that starts no instruction; code that ends before it; code that is no padding behind an
-/// instruction that never goes on; code from which control may go into the part, behind its first byte (from a moved instruction: to where none begins);
-/// and what the moving is refused by. `Memory` may stand in place of each.
+/// The trampoline has the moved instructions without the padding, then a jump back to the first byte after them unless the last one does not
+/// continue, all in the least layout, then gap, slots and relay. A branch or RIP operand whose target is a moved instruction follows it (for the
+/// first instruction as `start` says); every other target stays.
+///
+/// Errors, in this order: a byte of the overwritten part starts no instruction; the code ends before that part does; code that is not padding follows
+/// an instruction that does not continue; control may enter the overwritten part after its first byte, or goes from a moved instruction to a byte
+/// that starts none; the instructions cannot be moved. `Memory` can replace any of them.
+///
+/// ```
+/// let (ip, to, place) = (0x40_1000, 0x50_0000, 0x60_0000);
+/// let made = detour(
+///     rt.alloc(),
+///     Bits::B64,
+///     ip,
+///     &FUNCTION,
+///     to,
+///     place,
+///     StartTarget::Moved,
+/// )?;
+/// println!(rt; "{}", hex::encode(rt.alloc(), made.patch())?)?; // e9fbef0f00cc
+/// println!(rt; "{}", hex::encode(rt.alloc(), made.trampoline())?)?; // 554889e589f8e9fb0fe0ff
+/// ```
 pub fn detour(
     alloc: Global,
     bits: Bits,

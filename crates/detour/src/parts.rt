@@ -4,7 +4,7 @@ ghost use Rattle.std.specs.Prelude.{◌≡◌};
 
 use std::marker::Model;
 
-/// How the jump of a detour goes to the replacement.
+/// How the jump of a detour reaches the replacement.
 #[derive(Clone, Copy, PartialEq, Eq, Debug)]
 pub enum JumpForm {
     /// The near jump of the mode.
@@ -15,7 +15,7 @@ pub enum JumpForm {
     Absolute,
 }
 
-/// Where the parts of a trampoline stand, in bytes from its first one, where the moved instructions begin.
+/// Where the parts of a trampoline lie, as offsets in bytes. The moved instructions begin at 0.
 #[derive(Clone, Copy, PartialEq, Eq, Debug)]
 pub struct Parts {
     /// The jump back, if control goes on behind what was taken.
@@ -26,7 +26,7 @@ pub struct Parts {
     pub relay: Option<usize>,
 }
 
-/// A detour: what is written over the first bytes of a function, and its trampoline.
+/// A detour: the patch over a function's first bytes, and its trampoline.
 #[derive(Drop)]
 pub struct Detour {
     pub(crate) form: JumpForm,
@@ -48,35 +48,35 @@ impl Model for Detour {
 }
 
 impl Detour {
-    /// The form of the jump.
+    /// Returns the form of the jump.
     pub fn form(&self) -> JumpForm
         ensures { result ≡ self.now.form }
     {
         self.form
     }
 
-    /// How many bytes of the function are taken: those of the patch.
+    /// Returns how many bytes of the function the patch replaces.
     pub fn taken(&self) -> usize
         ensures { result ≡ self.now.taken }
     {
         self.taken
     }
 
-    /// Where the parts of the trampoline stand.
+    /// Returns where the parts of the trampoline lie.
     pub fn parts(&self) -> Parts
         ensures { result ≡ self.now.parts }
     {
         self.parts
     }
 
-    /// The bytes that replace the first ones of the function: the jump, and CC up to the end of what is taken.
+    /// Returns the bytes that replace the first ones of the function: the jump, then CC up to the end of the replaced part.
     pub fn patch(&self) -> &[u8]
         ensures { result.now ≡ self.now.patch }
     {
         &self.patch
     }
 
-    /// The bytes of the trampoline: the moved instructions, the jump back, and where they are needed a gap, slots and the relay.
+    /// Returns the bytes of the trampoline: the moved instructions and the jump back, then, if needed, gap, slots and relay.
     pub fn trampoline(&self) -> &[u8]
         ensures { result.now ≡ self.now.trampoline }
     {

@@ -1,6 +1,6 @@
 //! What becomes of targets at the start of the function.
 
-/// Where a taken instruction goes whose target is the function's own first byte.
+/// Where a moved instruction goes if its target is the function's own first byte.
 #[derive(Clone, Copy, PartialEq, Eq, Debug)]
 pub enum StartTarget {
     /// To the moved first instruction: a loop stays in the trampoline.

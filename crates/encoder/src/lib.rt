@@ -150,13 +150,19 @@ fn encode_by_row(bits: Bits, ip: u64, instr: &Instr) -> Result<ArrayVec<u8, 15>,
     Ok(bytes)
 }
 
-/// The bytes of the plain spelling of an instruction at an address, 1 to 15: the shortest that are read as it there.
+/// Encodes an instruction at an address. Returns its plain spelling, 1 to 15 bytes: the shortest bytes that decode to it there.
 ///
-/// `ip` is the address of the first byte, taken modulo 2 to the number of bits of the mode. Each needed prefix stands in the
-/// bytes once and no other does, and each part has its shortest form.
+/// `ip` is the address of the first byte; it wraps at the address size of the mode. Each needed prefix occurs once and no other does, and each part
+/// has its shortest form (Intel SDM volume 2, 2.1 to 2.3).
 ///
-/// An instruction is refused exactly where it has no plain spelling of at most 15 bytes, with the first condition that fails (Intel
-/// SDM volume 2, 2.1 to 2.3).
+/// Fails exactly if the instruction has no plain spelling of at most 15 bytes, with the first condition that fails.
+///
+/// ```
+/// let jump = read_intel(Bits::B64, 0x40_1000, b"jmp 0x401080")?;
+/// let bytes = encode(Bits::B64, 0x40_1000, &jump)?;
+/// println!(rt; "{}", hex::encode(rt.alloc(), &bytes)?)?; // eb7e
+/// println!(rt; "{}", encoded_len(Bits::B64, 0x40_1010, &jump)?)?; // 2
+/// ```
 pub fn encode(bits: Bits, ip: u64, instr: &Instr) -> Result<ArrayVec<u8, 15>, NoSpelling>
     ensures encoding { answer_bytes result ≡ encoding bits ip instr.now }
 
@@ -175,7 +181,7 @@ pub fn encode(bits: Bits, ip: u64, instr: &Instr) -> Result<ArrayVec<u8, 15>, No
     encode_by_row(bits, ip, instr)
 }
 
-/// The length of the plain spelling of an instruction at an address, 1 to 15 bytes, with the refusals of [`encode`].
+/// Returns the length of the plain spelling of an instruction at an address, 1 to 15 bytes. Errors are those of [`encode`].
 pub fn encoded_len(bits: Bits, ip: u64, instr: &Instr) -> Result<u8, NoSpelling>
     ensures { result ≡ length_of (encoding bits ip instr.now) }
 {

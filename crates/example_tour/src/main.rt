@@ -2,6 +2,7 @@
 //! away that its call needs another form.
 #![tactic(auto)]
 
+mod calls;
 mod first_client;
 mod show;
 
@@ -21,7 +22,8 @@ fn main(rt: HostRuntime) -> anyhow::Result<()> {
     show(&rt, bits, old, &FUNCTION)?;
     show_made(&rt, bits, old)?;
     show_moved(&rt, bits, old, new)?;
-    first_client::run(&rt)
+    first_client::run(&rt)?;
+    calls::run(&rt)
 }
 
 /// Makes `add r12, rax` and shows its bytes and what is read of them.

@@ -8,7 +8,7 @@ use operand_info::laws::well_formed_codes_are_in_the_table;
 use operand_info::{Access, Flow, access_of, flow_of, memory_size};
 use x86_values::Instr;
 
-/// Where control goes behind a well-formed instruction, as every one is that was read: [`flow_of`] of its code.
+/// Returns where control goes after a well-formed instruction: [`flow_of`] of its code. Every decoded instruction is well-formed.
 #[inline]
 pub fn flow_of_instr(instr: &Instr) -> Flow
     requires { IsTrue (is_well_formed instr.now) }
@@ -18,7 +18,7 @@ pub fn flow_of_instr(instr: &Instr) -> Flow
     flow_of(instr.code)
 }
 
-/// What a well-formed instruction does to operand `n`, 0 to 3: [`access_of`] of its code.
+/// Returns the access of a well-formed instruction to operand `n`, 0 to 3: [`access_of`] of its code.
 #[inline]
 pub fn access_of_instr(instr: &Instr, n: usize) -> Access
     requires form { IsTrue (is_well_formed instr.now) }
@@ -29,7 +29,8 @@ pub fn access_of_instr(instr: &Instr, n: usize) -> Access
     access_of(instr.code, n)
 }
 
-/// The size of the memory operand of a well-formed instruction in bytes, 0 to 32; 0 where there is none, or none of a size: [`memory_size`] of its code.
+/// Returns the size in bytes of the memory operand of a well-formed instruction, 0 to 32: [`memory_size`] of its code. It is 0 if there is none, or
+/// if its size is unknown.
 #[inline]
 pub fn memory_size_of_instr(instr: &Instr) -> u8
     requires { IsTrue (is_well_formed instr.now) }

@@ -13,6 +13,16 @@ use x86_values::{Bits, Instr};
 /// Shows a well-formed instruction in the Intel style, in a mode: what it writes is the text of `print_intel`.
 ///
 /// The text is ASCII, so the only failure is one of what it is written to. The contract cannot say so: std's `write_str` says nothing of its failures.
+///
+/// ```
+/// let read = decode_in(Bits::B64, 0x40_1000, b"\x48\x89\xe5\xc3")?;
+/// let instr = read.instr;
+/// let text = Intel {
+///     bits: Bits::B64,
+///     instr,
+/// };
+/// println!(rt; "{} bytes: {text}", read.len)?; // 3 bytes: mov rbp, rsp
+/// ```
 #[derive(Clone, Copy, PartialEq, Eq, Debug)]
 pub struct Intel {
     pub bits: Bits,

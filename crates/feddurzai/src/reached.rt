@@ -16,7 +16,7 @@ const MOST: usize = 1_048_576;
 /// How many bytes of code are followed together at most, from several first offsets.
 const MOST_FROM: usize = 16_777_216;
 
-/// Why no graph of some code is given.
+/// Why there is no graph of some code.
 #[derive(Clone, Copy, PartialEq, Eq, Debug, Error)]
 pub enum CodeGraphError {
     /// There are this many bytes, more than 1,048,576, or from several first offsets more than 16,777,216.
@@ -27,7 +27,13 @@ pub enum CodeGraphError {
     Memory,
 }
 
-/// The graph of some code, the first byte of which has the address `base`: [`flow_graph_in`], refused above 1,048,576 bytes.
+/// Returns the flow graph of some code whose first byte has the address `base`, like [`flow_graph_in`]. It fails above 1,048,576 bytes.
+///
+/// ```
+/// let code = b"\x74\x01\x90\xc3"; // je 0x401003; nop; ret
+/// let graph = graph_of_code(rt.alloc(), Bits::B64, 0x40_1000, code)?;
+/// println!(rt; "{:?} {:?}", graph.starts(), graph.leaders())?; // [0, 2, 3] [0, 2, 3]
+/// ```
 pub fn graph_of_code(
     alloc: Global,
     bits: Bits,
@@ -47,8 +53,8 @@ pub fn graph_of_code(
     }
 }
 
-/// What control reaches from several first offsets of some code, the first byte of which has the address `base`: [`flow_graph_from`], refused above
-/// 16,777,216 bytes. An offset at which there is no byte adds nothing.
+/// Returns what control reaches from several entry offsets of some code whose first byte has the address `base`, like [`flow_graph_from`]. An offset
+/// past the end of the code adds nothing. It fails above 16,777,216 bytes.
 pub fn graph_of_code_from(
     alloc: Global,
     bits: Bits,

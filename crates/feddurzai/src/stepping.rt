@@ -18,10 +18,11 @@ pub enum StepCodeError {
     Refused(StepError),
 }
 
-/// Gives the instruction at the front of some bytes, whose first has the address `ip`, a slot, and answers the address of its block:
-/// [`StepSlots::step`] of what is read there in the mode of the slots. 15 bytes are enough.
+/// Gives the instruction at the front of some bytes a slot, and returns the address of its block.
 ///
-/// Refused with nothing changed: first where the bytes begin with no instruction.
+/// `ip` is the address of the first byte; 15 bytes are enough. The instruction is decoded in the mode of the slots and passed to [`StepSlots::step`].
+///
+/// Errors leave the slots unchanged. The first error is that no instruction starts there.
 pub fn step_code(
     slots: &mut StepSlots,
     alloc: Global,

@@ -17,7 +17,7 @@ use operand_info::{Flow, flow_of, near_target};
 use plain_spelling::numbers::distance;
 use x86_values::{Bits, Decoded, Instr};
 
-/// Where control goes from an instruction, as far as there are bytes.
+/// Where control goes after an instruction, as far as the code has bytes.
 #[derive(Clone, Copy)]
 pub struct Exits {
     /// The length of the instruction where control goes to its end, else 0.
@@ -34,7 +34,7 @@ pub(crate) struct Stop {
     pub(crate) exits: Exits,
 }
 
-/// Whether control may go on behind an instruction of a flow: not behind a jump, a return or an undefined instruction.
+/// Returns whether control can continue after an instruction with this flow. It cannot after a jump, a return or an undefined instruction.
 #[tactic(auto, unfolding(crate::specs::Control::goes_on))]
 pub fn goes_on(flow: Flow) -> bool
     ensures { result ≡ control.goes_on flow }
@@ -159,10 +159,10 @@ pub(crate) fn stop_at(bits: Bits, base: u64, bytes: &[u8], offset: usize) -> Sto
     }
 }
 
-/// Where control goes from the instruction at an offset of some code, the first byte of which has the address `base`: to its end, to its near
-/// target, to both or nowhere, as far as there are bytes; nowhere where no instruction is read.
+/// Returns where control goes from the instruction at an offset of some code: to its end, to its near target, to both, or nowhere, as far as the code
+/// has bytes. It goes nowhere if no instruction starts there.
 ///
-/// Addresses are taken modulo 2 to the number of bits of the mode.
+/// `base` is the address of the first byte. Addresses wrap at the address size of the mode.
 pub fn exits_at(bits: Bits, base: u64, bytes: &[u8], offset: usize) -> Exits
     requires inside { offset < length bytes.now }
     requires few { length bytes.now ≤ 1048576 }

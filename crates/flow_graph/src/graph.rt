@@ -16,7 +16,7 @@ use std::marker::Model;
 use thiserror::Error;
 use x86_values::Bits;
 
-/// Why no graph is given.
+/// Why there is no graph.
 #[derive(Clone, Copy, Debug, PartialEq, Eq, Error)]
 pub enum FlowError {
     /// The allocator had no memory left.
@@ -30,13 +30,14 @@ impl From<AllocError> for FlowError {
     }
 }
 
-/// The offsets that control reaches from the first byte of some code, or from several first offsets, each with the leader of its basic block and
-/// the flow of its instruction.
+/// The offsets that control reaches from the first byte of some code, or from several entry offsets, each with the leader of its basic block and the
+/// flow of its instruction.
 ///
-/// From an instruction control goes to its end, unless it is a jump, a return or an undefined instruction, and to its near
-/// target, if it has one, as far as there are bytes; where no instruction is read, it goes nowhere. A reached offset is a
-/// follower where control comes to it from one reached instruction alone, which ends there and from which control goes
-/// nowhere else, and no first offset. The other reached offsets are leaders. A basic block is a leader and the followers behind it.
+/// From an instruction control goes to its end, unless it is a jump, a return or an undefined instruction, and to its near target if it has one, as
+/// far as the code has bytes. From a byte that starts no instruction it goes nowhere.
+///
+/// A reached offset is a follower if it is no entry, exactly one reached instruction leads to it, that instruction ends there, and control goes
+/// nowhere else from it. The other reached offsets are leaders. A basic block is a leader and the followers after it.
 #[derive(Drop)]
 pub struct FlowGraph {
     blocks: Blocks,
@@ -57,14 +58,14 @@ impl Model for FlowGraph {
 impl FlowGraph {
     ghost use Rattle.std.specs.Prelude.{◌≡◌, length};
 
-    /// The reached offsets, in ascending order.
+    /// Returns the reached offsets, in ascending order.
     pub fn starts(&self) -> &[u32]
         ensures { result.now ≡ self.now.starts }
     {
         &self.blocks.starts
     }
 
-    /// The leaders of the reached offsets, in the order of those.
+    /// Returns the leader of each reached offset, in the same order.
     pub fn leaders(&self) -> &[u32]
         ensures leaders { result.now ≡ self.now.leaders }
         ensures len { length result.now ≡ length self.now.starts }
@@ -72,7 +73,7 @@ impl FlowGraph {
         &self.blocks.leaders
     }
 
-    /// The flows of the instructions at the reached offsets, in the order of those, or why none is read.
+    /// Returns, for each reached offset in the same order, the flow of its instruction, or why no instruction starts there.
     pub fn flows(&self) -> &[Result<Flow, DecodeError>]
         ensures flows { result.now ≡ self.now.flows }
         ensures len { length result.now ≡ length self.now.starts }
@@ -81,10 +82,10 @@ impl FlowGraph {
     }
 }
 
-/// The graph of code of at most 1,048,576 bytes, the first of which has the address `base`. `BITS` is the mode: 16, 32 or 64.
+/// Returns the flow graph of at most 1,048,576 bytes of code.
 ///
-/// Addresses are taken modulo 2 to the number of bits of the mode. Each reached offset is read once. `Memory` is the only
-/// refusal.
+/// `BITS` is the mode: 16, 32 or 64. `base` is the address of the first byte. Addresses wrap at the address size of the mode. It decodes each reached
+/// offset once. The only error is `Memory`.
 pub fn flow_graph<const BITS: u32>(
     alloc: Global,
     base: u64,
@@ -97,7 +98,7 @@ pub fn flow_graph<const BITS: u32>(
     flow_graph_in(alloc, mode_of::<BITS>(), base, bytes)
 }
 
-/// The flow graph of some code in a mode that is a value: what control reaches from its first byte, with the refusal of [`flow_graph`].
+/// Returns the flow graph of some code in a mode that is known at run time. The only error is that of [`flow_graph`].
 pub fn flow_graph_in(
     alloc: Global,
     bits: Bits,
@@ -111,11 +112,10 @@ pub fn flow_graph_in(
     flow_graph_from(alloc, bits, base, bytes, &[0])
 }
 
-/// What control reaches from several first offsets of code of at most 16,777,216 bytes, the first of which has the address `base`: the starts of
-/// functions, say.
+/// Returns what control reaches from several entry offsets, such as the starts of functions, of at most 16,777,216 bytes of code.
 ///
-/// An offset at which there is no byte adds nothing, nor does one that stands there again; their order does not matter. A first offset is a
-/// leader, whatever goes to it. `Memory` is the only refusal.
+/// `base` is the address of the first byte. An offset past the end of the code adds nothing; order and repetition do not matter. An entry is always a
+/// leader. The only error is `Memory`.
 pub fn flow_graph_from(
     alloc: Global,
     bits: Bits,

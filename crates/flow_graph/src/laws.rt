@@ -9,26 +9,26 @@ ghost use Rattle.flow_graph.specs.Graphs.{Graph, IsFlowGraph, IsFlowGraphFrom};
 
 use decoder::reading_laws::bytes_have_one_reading;
 
-/// Every set that has the first byte, and with each offset its successors, has the reached offsets.
+/// Every set that contains the first byte, and with each offset its successors, contains the reached offsets.
 pub fn reached_is_least()
     ensures { (code : CodeBytes) (chosen : ℕ → Bool) → (0 < length code.bytes → IsTrue (chosen 0))
         → ((p q : ℕ) → IsTrue (chosen p) → IsSuccessor code p q → IsTrue (chosen q))
         → (q : ℕ) → Reaches code q → IsTrue (chosen q) }
 {}
 
-/// An offset has one leader at most.
+/// An offset has at most one leader.
 pub fn leaders_are_unique()
     ensures { (code : CodeBytes) (q leader other : ℕ) → LeaderOf code leader q → LeaderOf code other q → leader ≡ other }
 {}
 
-/// Some code has one graph at most.
+/// Some code has at most one graph.
 pub fn graphs_are_unique()
     ensures { (code : CodeBytes) (graph other : Graph) → IsFlowGraph code graph → IsFlowGraph code other → graph ≡ other }
 {
     bytes_have_one_reading();
 }
 
-/// Every set that has the first offsets within the code, and with each offset its successors, has what is reached from them.
+/// Every set that contains the entries within the code, and with each offset its successors, contains what is reached from them.
 pub fn reached_from_is_least()
     ensures { (code : CodeBytes) (entries : List ℕ) (chosen : ℕ → Bool)
         → ((q : ℕ) → Contains entries q → q < length code.bytes → IsTrue (chosen q))
@@ -36,7 +36,7 @@ pub fn reached_from_is_least()
         → (q : ℕ) → ReachesFrom code entries q → IsTrue (chosen q) }
 {}
 
-/// Some code has one graph at most from the same first offsets, in whatever order and however often they stand in the list.
+/// Some code has at most one graph for the same entries, in any order and with any repetition.
 pub fn graphs_from_are_unique()
     ensures { (code : CodeBytes) (entries others : List ℕ) (graph other : Graph)
         → ((q : ℕ) → Contains entries q ↔ Contains others q)
@@ -45,7 +45,7 @@ pub fn graphs_from_are_unique()
     bytes_have_one_reading();
 }
 
-/// The graph of some code is the one from its first byte alone.
+/// The graph of some code is the graph from its first byte as the only entry.
 pub fn one_entry_is_the_first_byte()
     ensures { (code : CodeBytes) (graph : Graph) → IsFlowGraphFrom code (0 ∷ []) graph ↔ IsFlowGraph code graph }
 {}

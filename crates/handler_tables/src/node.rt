@@ -6,7 +6,7 @@ use std::sync::ledger::Ledger;
 use step_count::Steps;
 use x86_values::Code;
 
-/// What an entry of a node leads to: no row, the row of a code, or the node of a number among those of 2, 3, 4, 8 or 256 entries.
+/// What an entry of a node leads to: no row, the row of a code, or another node, given by its number among the nodes of 2, 3, 4, 8 or 256 entries.
 #[derive(Clone, Copy)]
 pub enum Next {
     Stop,
@@ -18,7 +18,7 @@ pub enum Next {
     N256(u16),
 }
 
-/// What a node splits by.
+/// The field by which a node splits.
 #[derive(Clone, Copy)]
 pub enum Split {
     /// The kind and the map.
@@ -40,7 +40,7 @@ pub enum Split {
     RexB,
 }
 
-/// A node, which contracts see as the list of its `N` entries.
+/// A node. Contracts see it as the list of its `N` entries.
 #[derive(Drop)]
 pub struct Node<const N: usize> {
     entries: &'static [Next],
@@ -66,7 +66,8 @@ impl<const N: usize> Node<N> {
         Node { entries }
     }
 
-    /// Where the walk goes on for a value of the field that the node splits by, which is below `N`, the number of its entries. It is one look-up.
+    /// Returns where the walk continues for a value of the field by which the node splits. The value must be below `N`, the number of entries. This
+    /// is one look-up.
     #[inline]
     pub fn next<L: Ledger>(&self, field: usize, steps: &mut Steps<L>) -> Next
         requires { field < N }

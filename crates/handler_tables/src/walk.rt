@@ -20,10 +20,10 @@ use std::sync::ledger::Ledger;
 use step_count::Steps;
 use x86_values::Code;
 
-/// The code of the one row of the table whose conditions hold on the nine fields in a mode; None exactly where no row's do.
+/// Returns the code of the one row whose conditions hold for these nine fields in a mode, or None exactly if no row's conditions hold.
 ///
-/// `BITS` is the mode: 16, 32 or 64. Each field may have any value, also one that no bytes give. Without a ModRM byte only a row that has none is
-/// found. Each look-up in a node is a step: at most 11, and at least 2 where a row is found.
+/// `BITS` is the mode: 16, 32 or 64. The fields may have any values, also values that no bytes produce. If `modrm` is None, only rows without ModRM
+/// match. Each look-up in a node is a step: at most 11, and at least 2 if a row is found.
 pub fn find<const BITS: u32, L: Ledger>(fields: &Fields, steps: &mut Steps<L>) -> Option<Code>
     requires { IsTrue (is_mode BITS) }
     ensures row { MatchOption result
@@ -37,10 +37,9 @@ pub fn find<const BITS: u32, L: Ledger>(fields: &Fields, steps: &mut Steps<L>) -
     walk::<Given<BITS>, L>(&Given::<BITS> { fields }, steps)
 }
 
-/// The code of the one row of the table whose conditions hold in a mode on a front and the byte behind its opcode byte; None exactly where no
-/// row's do.
+/// Returns the code of the one row whose conditions hold for a front and the byte after its opcode byte, or None exactly if no row's conditions hold.
 ///
-/// `BITS` is the mode: 16, 32 or 64. Each look-up in a node is a step: at most 11, and at least 2 where a row is found.
+/// `BITS` is the mode: 16, 32 or 64. Each look-up in a node is a step: at most 11, and at least 2 if a row is found.
 // Of the front only what a node asks for is looked at.
 #[inline(always)]
 pub fn find_front<const BITS: u32, L: Ledger>(

@@ -10,7 +10,7 @@ use crate::generated_effects::{
 use opcode_rows::ROWS;
 use x86_values::Code;
 
-/// What is done to a register or to memory. A conditional access is one that a mask, a comparison or a repeat prefix whose counter is 0 may prevent.
+/// An access to a register or to memory. A mask, a comparison, or a repeat prefix with a counter of 0 can prevent a conditional access.
 #[derive(Clone, Copy, PartialEq, Eq, Debug)]
 pub enum AccessKind {
     Read,
@@ -23,8 +23,8 @@ pub enum AccessKind {
     ReadConditionalWrite,
 }
 
-/// The class of an implied register, or what its size goes by: the operand size of the row, the address size, the stack size, which is that of the mode,
-/// or 64 bits in 64-bit mode and else 32.
+/// The class of an implied register, or the size that selects it: the operand size of the row, the address size, the stack size (that of the mode),
+/// or 64 bits in 64-bit mode and 32 elsewhere.
 #[derive(Clone, Copy, PartialEq, Eq)]
 pub enum RegisterGroup {
     Low8,
@@ -51,7 +51,7 @@ pub struct ImpliedRegister {
     pub access: AccessKind,
 }
 
-/// The segment of implied memory: DS where no prefix names another, ES whatever prefix there is, or SS.
+/// The segment of implied memory: DS unless a prefix names another, always ES, or SS.
 #[derive(Clone, Copy, PartialEq, Eq)]
 pub enum SegmentRule {
     Data,
@@ -59,8 +59,8 @@ pub enum SegmentRule {
     Stack,
 }
 
-/// Memory that no operand names. It begins at the base, with AL added where `al` says so; where it lies below the base it ends there. It has `count`
-/// units, in 64-bit mode `count64`, each of `unit` bytes, or of the operand size where that is 0.
+/// Memory that no operand names. It begins at the base, plus AL if `al` is set; if it lies below the base, it ends there. It has `count` units
+/// (`count64` in 64-bit mode) of `unit` bytes each, or of the operand size if `unit` is 0.
 #[derive(Clone, Copy, PartialEq, Eq)]
 pub struct ImpliedMemory {
     pub segment: SegmentRule,
@@ -74,8 +74,8 @@ pub struct ImpliedMemory {
     pub access: AccessKind,
 }
 
-/// What is done to the memory operand: what the columns say; a write, where the columns say more for the sake of a register form; or, where a mask
-/// chooses its elements, a conditional read or write.
+/// The access to the memory operand: as the columns say; a write, if the columns say more because of a register form; or a conditional read or write,
+/// if a mask selects elements.
 #[derive(Clone, Copy, PartialEq, Eq)]
 pub enum NamedMemory {
     AsOperand,
@@ -84,8 +84,9 @@ pub enum NamedMemory {
     ConditionalWrite,
 }
 
-/// What a row does besides its operands: the flags of each set, the features, those of the form without memory where a row has both forms, where its registers and its memory begin in their lists and how many
-/// they are, whether a repeat prefix repeats it, the bytes of the memory operand where the columns have none, and what is done to that.
+/// What a row does besides its operands: its flags by kind, its features, the features of the form without memory if a row has both forms, its ranges
+/// in the lists of implied registers and memory, whether a repeat prefix repeats it, and the size and access of the memory operand if the columns do
+/// not give them.
 #[derive(Clone, Copy)]
 pub struct Effect {
     pub read: u32,
@@ -124,7 +125,7 @@ fn effect_in(index: u16) -> Effect
     EFFECTS[index as usize]
 }
 
-/// The effect of the row of a code. Its registers and memory lie in their lists.
+/// Returns the effect of the row of a code. Its registers and memory lie in their lists.
 #[inline]
 pub fn effect_at(code: Code) -> Effect
     requires { code.0 < ROWS }
@@ -137,7 +138,7 @@ pub fn effect_at(code: Code) -> Effect
     effect_in(index_at(code))
 }
 
-/// Whether a repeat prefix repeats the instructions of a code below `ROWS`.
+/// Returns whether a repeat prefix repeats the instructions of a code below `ROWS`.
 #[inline]
 pub fn repeats(code: Code) -> bool
     requires { code.0 < ROWS }
@@ -146,7 +147,7 @@ pub fn repeats(code: Code) -> bool
     effect_at(code).repeats
 }
 
-/// The bytes of the memory operand of a code below `ROWS`, where its kind has none; 0 elsewhere.
+/// Returns the size in bytes of the memory operand of a code below `ROWS` if its kind gives none, and 0 otherwise.
 #[inline]
 pub fn stated_size(code: Code) -> u16
     requires { code.0 < ROWS }
@@ -155,7 +156,7 @@ pub fn stated_size(code: Code) -> u16
     effect_at(code).size
 }
 
-/// What is done to the memory operand of a code below `ROWS`.
+/// Returns the access to the memory operand of a code below `ROWS`.
 #[inline]
 pub fn stated_access(code: Code) -> NamedMemory
     requires { code.0 < ROWS }
@@ -182,7 +183,7 @@ fn memory_list() -> &'static [ImpliedMemory; MEMORY_COUNT as usize]
     &IMPLIED_MEMORY
 }
 
-/// The registers that the row of a code below `ROWS` implies, in the order of its line.
+/// Returns the registers that the row of a code below `ROWS` implies, in the order of its line.
 #[inline]
 pub fn implied_registers(code: Code) -> &'static [ImpliedRegister]
     requires { code.0 < ROWS }
@@ -194,7 +195,7 @@ pub fn implied_registers(code: Code) -> &'static [ImpliedRegister]
     &register_list()[first..first + effect.registers as usize]
 }
 
-/// The memory that the row of a code below `ROWS` implies, in the order of its line.
+/// Returns the memory that the row of a code below `ROWS` implies, in the order of its line.
 #[inline]
 pub fn implied_memory(code: Code) -> &'static [ImpliedMemory]
     requires { code.0 < ROWS }

@@ -9,7 +9,7 @@ use instruction_parts::row_types::{Map, Row, RowKind};
 use opcode_rows::{ROWS, row_of};
 use x86_values::{Code, Instr};
 
-/// CPUID feature flags (Intel SDM volume 2, CPUID), each by the name that it has there. An instruction uses or needs all of its set.
+/// CPUID feature flags, each under its name in the manual (Intel SDM volume 2, CPUID). An instruction uses, or needs, all features of its set.
 #[derive(Clone, Copy, PartialEq, Eq, Debug)]
 pub struct Features(pub u64);
 
@@ -91,10 +91,10 @@ impl Flags for Features {
     }
 }
 
-/// The features that the manual's page of a code below `ROWS` names, none for what each processor has.
+/// Returns the features that the manual's page names for a code below `ROWS`; none if every processor has the instruction.
 ///
-/// Two forms of a row can use different ones: VBROADCASTSS and VBROADCASTSD from memory use AVX, which is reported, and from a register AVX2, which
-/// `used_features` reports. A hint uses a feature and does not need it: `needed_features` leaves it out.
+/// Two forms of a row can use different features. VBROADCASTSS and VBROADCASTSD use AVX from memory, which this function returns, and AVX2 from a
+/// register, which [`used_features`] returns. A hint uses a feature but does not need it: see [`needed_features`].
 pub fn features_of(code: Code) -> Features
     requires { code.0 < ROWS }
     ensures { result.0 ≡ spec.features_of code.0 }
@@ -119,8 +119,10 @@ pub(crate) fn has_memory(instr: &Instr) -> bool
     instr.ops.iter().any(|op| op.is_memory())
 }
 
-/// The features that an instruction uses whose code is below `ROWS`: those of its row, where an operand is memory, and of two forms of a row else those
-/// of the other. A processor that lacks one refuses the instruction, or executes another in its place: a NOP, BSF or BSR.
+/// Returns the features that an instruction uses. Its code must be below `ROWS`.
+///
+/// These are the features of its row; if the two forms of a row use different features, those of the form at hand. A processor without one of them
+/// refuses the instruction, or executes another in its place: a NOP, BSF or BSR.
 #[tactic(auto, unfolding(crate::specs::Effects::used_features))]
 pub fn used_features(instr: &Instr) -> Features
     requires { instr.now.code.0 < ROWS }
@@ -144,8 +146,14 @@ fn is_hint(row: &Row) -> bool
     }
 }
 
-/// The features that an instruction needs whose code is below `ROWS`: those of `used_features`, and none of a hint. Prefetches, RDSSPD, RDSSPQ, ENDBR32
-/// and ENDBR64 use a feature, and a processor without it executes them as a NOP.
+/// Returns the features that an instruction needs. Its code must be below `ROWS`.
+///
+/// These are [`used_features`], or none for a hint. Prefetches, RDSSPD, RDSSPQ, ENDBR32 and ENDBR64 use a feature, but a processor without it
+/// executes them as a NOP.
+///
+/// ```
+/// println!(rt; "{}", needed_features(&add.instr).contains(Features::AVX))?; // false
+/// ```
 #[tactic(auto, unfolding(crate::specs::Effects::needed_features))]
 pub fn needed_features(instr: &Instr) -> Features
     requires { instr.now.code.0 < ROWS }

@@ -8,8 +8,8 @@ use bitflags::{Flag, Flags, bitflag_items};
 use opcode_rows::ROWS;
 use x86_values::Code;
 
-/// Flags of EFLAGS, at their bits of that register (Intel SDM volume 1, 3.4.3), and the condition bits C0 to C3 of the x87 status word, at their bits of
-/// it (8.1.3) and 16 more: 24, 25, 26 and 30. IOPL has two bits.
+/// Flags, at their bits of EFLAGS (Intel SDM volume 1, 3.4.3), and the condition bits C0 to C3 of the x87 status word (8.1.3), at their bits of that
+/// word plus 16: 24, 25, 26 and 30. IOPL has two bits.
 #[derive(Clone, Copy, PartialEq, Eq, Debug)]
 pub struct FlagSet(pub u32);
 
@@ -65,7 +65,7 @@ impl Flags for FlagSet {
     }
 }
 
-/// What an instruction does to the flags. Those that are in neither `written` nor `undefined` stay as they were.
+/// What an instruction does to the flags. Flags that are in neither `written` nor `undefined` do not change.
 #[derive(Clone, Copy, PartialEq, Eq, Debug)]
 pub struct FlagUse {
     /// Those that what it does depends on.
@@ -82,7 +82,14 @@ pub struct FlagUse {
     pub kept: FlagSet,
 }
 
-/// What the instructions of a code below `ROWS` do to the flags.
+/// Returns what the instructions of a code below `ROWS` do to the flags.
+///
+/// ```
+/// let add = decode_in(Bits::B64, 0x40_1000, b"\x01\xf8")?;
+/// laws::well_formed_codes_are_in_the_table();
+/// let flags = flags_of(add.instr.code);
+/// println!(rt; "{}", flags.written.contains(FlagSet::ZF))?; // true
+/// ```
 pub fn flags_of(code: Code) -> FlagUse
     requires { code.0 < ROWS }
     ensures read { result.read.0 ≡ spec.flags_read code.0 }

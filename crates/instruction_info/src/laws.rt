@@ -15,7 +15,7 @@ ghost use Rattle.instruction_info.specs.Settings.{has_repeat};
 ghost use Rattle.instruction_info.specs.Registers.{all_registers};
 ghost use Rattle.instruction_info.specs.Laws.{PageFlags, tested_flags, is_calling, is_returning, is_system_return, is_push, is_pop, slots_of, are_slots, page_flags, is_string_row, counter, added_features};
 
-/// Flags that are cleared or set are written, none is both written and undefined, and those that may be kept are one or the other.
+/// Cleared and set flags are written. No flag is both written and undefined. Flags that may be kept are written or undefined.
 pub fn flags_are_told_apart()
     ensures cleared { (code : ℕ) → bit_and (flags_cleared code) (flags_written code) ≡ flags_cleared code }
     ensures set_ { (code : ℕ) → bit_and (flags_set code) (flags_written code) ≡ flags_set code }
@@ -23,31 +23,33 @@ pub fn flags_are_told_apart()
     ensures kept { (code : ℕ) → bit_and (flags_kept code) (bit_or (flags_written code) (flags_undefined code)) ≡ flags_kept code }
 {}
 
-/// A conditional row, one of Jcc, SETcc, CMOVcc, FCMOVcc, LOOPcc, LOOP and JRCXZ, reads exactly the flags of its condition.
+/// A conditional row (Jcc, SETcc, CMOVcc, FCMOVcc, LOOPcc, LOOP, JRCXZ) reads exactly the flags of its condition.
 pub fn conditions_are_read()
     ensures { (code flags : ℕ) (row : Row) → slice_get table code ≡ Some row → tested_flags row ≡ Some flags → flags_read code ≡ flags }
 {}
 
-/// Each call but those of the system writes to the stack below its pointer.
+/// Each call, except system calls, writes to the stack below its pointer.
 pub fn calls_push()
     ensures { (code : ℕ) (row : Row) → slice_get table code ≡ Some row → IsTrue (is_calling (flow_of code))
         → is_system_call (name_of code) ≡ false → IsTrue (list_any is_push (implied_memory_of code)) }
 {}
 
-/// Each return but those from system calls reads the stack at its pointer.
+/// Each return, except returns from system calls, reads the stack at its pointer.
 pub fn returns_pop()
     ensures { (code : ℕ) (row : Row) → slice_get table code ≡ Some row → IsTrue (is_returning (flow_of code))
         → is_system_return (name_of code) ≡ false → IsTrue (list_any is_pop (implied_memory_of code)) }
 {}
 
-/// A near call pushes one slot of its operand size and a near return pops one, a far call and a far return two, and no other memory is implied.
+/// A near call pushes one slot of its operand size, and a near return pops one. A far call pushes two, and a far return pops two. They imply no other
+/// memory.
 pub fn calls_and_returns_move_their_slots()
     ensures { (code count : ℕ) (row : Row) → slice_get table code ≡ Some row → slots_of (name_of code) ≡ Some count
         → IsTrue (are_slots count (implied_memory_of code)) }
 {}
 
-/// Arithmetic writes all six status flags, and ADC and SBB read CF; INC and DEC write all but CF; AND, OR, XOR and TEST clear OF and CF, write SF, ZF and PF and leave AF undefined;
-/// rotates write CF, and OF by 1; shifts write SF, ZF, PF and CF, and OF by 1, and leave AF undefined. A count of 0 keeps them.
+/// Arithmetic writes all six status flags, and ADC and SBB read CF. INC and DEC write all but CF. AND, OR, XOR and TEST clear OF and CF, write SF, ZF
+/// and PF, and leave AF undefined. Rotates write CF, and OF by 1. Shifts write SF, ZF, PF and CF, and OF by 1, and leave AF undefined. A count of 0
+/// keeps them.
 pub fn arithmetic_has_the_flags_of_its_page()
     ensures read { (code : ℕ) (row : Row) (page : PageFlags) → slice_get table code ≡ Some row → page_flags (name_of code) row ≡ Some page
         → flags_read code ≡ page.read }
@@ -61,7 +63,7 @@ pub fn arithmetic_has_the_flags_of_its_page()
         → flags_kept code ≡ page.kept }
 {}
 
-/// A repeat prefix repeats the string instructions and no other row, and behind one the counter is the last of all registers.
+/// A repeat prefix repeats the string instructions and no other row. With one, the counter is the last of all registers.
 pub fn strings_repeat()
     ensures rows { (code : ℕ) (row : Row) → slice_get table code ≡ Some row → (effect_of code).repeats ≡ is_string_row row }
     ensures counter { (bits : Bits) (i : Instr) (row : Row) → slice_get table i.code.0 ≡ Some row → IsTrue (is_string_row row)

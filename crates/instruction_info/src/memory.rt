@@ -16,10 +16,10 @@ use operand_info::laws::well_formed_codes_are_in_the_table;
 use operand_info::{Access, access_of, memory_size};
 use x86_values::{Bits, Code, Instr, Mem, Operand, Register, Segment, wrap};
 
-/// Memory with what an instruction does to it: an address of a segment, as base, index times scale, and displacement, and the number of bytes there.
+/// Memory that an instruction touches: a segment, an address (base, index times scale, displacement), and a size in bytes.
 ///
-/// The displacement is cut to the address size; at the base RIP or EIP it is the absolute address. The registers count with the values that they have
-/// before the instruction. A size of 0 is one that is not known: it depends on what the processor has enabled.
+/// The displacement is reduced to the address size; at the base RIP or EIP it is the absolute address. Registers count with their values before the
+/// instruction. A size of 0 means that the size is unknown: it depends on what the processor has enabled.
 #[derive(Clone, Copy, PartialEq, Eq, Debug)]
 pub struct MemoryUse {
     pub segment: Segment,
@@ -269,8 +269,15 @@ fn push_implied(uses: &mut Uses, setting: Setting, memory: &[ImpliedMemory])
     }
 }
 
-/// The memory that a well-formed instruction touches in a mode: its memory operand first, if something is done to that, then what is implied: slots of
+/// Returns the memory that a well-formed instruction touches in a mode: first its memory operand, if it is accessed, then implied memory: slots of
 /// the stack, and the addresses of strings, of XLAT and of masked stores.
+///
+/// ```
+/// let push = decode_in(Bits::B64, 0x40_1000, b"\x55")?;
+/// for used in all_memory(Bits::B64, &push.instr).iter() {
+///     println!(rt; "{:?} {} bytes {:?}", used.segment, used.size, used.access)?; // Ss 8 bytes Write
+/// }
+/// ```
 #[tactic(auto, unfolding(crate::specs::Memory::all_memory))]
 pub fn all_memory(bits: Bits, instr: &Instr) -> ArrayVec<MemoryUse, 4>
     requires { IsTrue (is_well_formed instr.now) }

@@ -16,7 +16,7 @@ use operand_info::laws::well_formed_codes_are_in_the_table;
 use operand_info::{Access, RegUse, used_registers};
 use x86_values::{Bits, Instr, Register, Segment};
 
-/// A register with what an instruction does to it.
+/// A register that an instruction touches, and its access.
 #[derive(Clone, Copy, PartialEq, Eq, Debug)]
 pub struct RegisterUse {
     pub reg: Register,
@@ -36,8 +36,8 @@ impl Default for RegisterUse {
 /// At most 32 uses of registers.
 type Uses = ArrayVec<RegisterUse, 32>;
 
-/// The widest register that holds a register: RAX of AL, AH, AX and EAX, YMM1 of XMM1, RIP of EIP, and of any other the register itself. Uses of two
-/// registers touch one place where these are one.
+/// Returns the widest register that contains a register: RAX for AL, AH, AX and EAX, YMM1 for XMM1, RIP for EIP, and any other register itself. Two
+/// registers overlap if their widest registers are equal. (MMX registers alias the x87 stack; this function keeps them apart.)
 pub fn full_register(reg: Register) -> Register
     ensures { result ≡ spec.full_register reg }
 {
@@ -214,10 +214,18 @@ fn push_counter(uses: &mut Uses, setting: Setting)
     }
 }
 
-/// The registers that a well-formed instruction touches in a mode: those that its operands name, as `used_registers` has them, but that MOVSS and
-/// MOVSD from memory write their destination and do not read it; the segment registers of
-/// the memory that `all_memory` has, of which in 64-bit mode FS and GS alone count; those that are implied; and the counter of a repeat prefix. A register
-/// that is touched in two ways is there twice. They are 32 at the most.
+/// Returns the registers that a well-formed instruction touches in a mode; at most 32.
+///
+/// In this order: the registers that its operands name, as `used_registers` returns them, except that MOVSS and MOVSD from memory write their
+/// destination and do not read it; the segment registers of the memory that `all_memory` returns (in 64-bit mode only FS and GS); implied registers;
+/// and the counter of a repeat prefix. A register that is touched in two ways occurs twice.
+///
+/// ```
+/// let push = decode_in(Bits::B64, 0x40_1000, b"\x55")?;
+/// for used in all_registers(Bits::B64, &push.instr).iter() {
+///     println!(rt; "{:?} {:?}", used.reg, used.access)?; // R64(5) Read, R64(4) ReadWrite
+/// }
+/// ```
 #[tactic(auto, using(crate::proofs::FewUses::few_uses), unfolding(crate::specs::Registers::all_registers))]
 pub fn all_registers(bits: Bits, instr: &Instr) -> ArrayVec<RegisterUse, 32>
     requires { IsTrue (is_well_formed instr.now) }

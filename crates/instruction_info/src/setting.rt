@@ -9,7 +9,8 @@ use instruction_parts::row_types::Size;
 use opcode_rows::{ROWS, row_of};
 use x86_values::{Bits, Code, Instr, Register, Rep, Segment};
 
-/// The mode, which is the stack size too, the operand and address sizes, the segment prefix that counts, and whether a repeat prefix repeats.
+/// The mode (which is also the stack size), the operand and address sizes, the effective segment prefix, and whether a repeat prefix repeats the
+/// instruction.
 #[derive(Clone, Copy)]
 pub struct Setting {
     pub bits: Bits,
@@ -51,7 +52,7 @@ fn operand_of(code: Code) -> Bits
     operand_size(row_of(code).size)
 }
 
-/// What an instruction goes by in a mode. Where it keeps no address size that is the mode's.
+/// Returns the setting of an instruction in a mode. An instruction without an address size has that of the mode.
 #[tactic(auto, unfolding(crate::specs::Settings::setting_of))]
 pub fn setting_of(bits: Bits, instr: &Instr) -> Setting
     requires { instr.now.code.0 < ROWS }
@@ -66,7 +67,7 @@ pub fn setting_of(bits: Bits, instr: &Instr) -> Setting
     }
 }
 
-/// The general register of a size.
+/// Returns the general register with a size and a number.
 #[inline]
 pub fn general_register(size: Bits, n: u8) -> Register
     ensures { result ≡ spec.register_of_size size n }
@@ -104,7 +105,7 @@ fn segment_of(n: u8) -> Segment
     }
 }
 
-/// The register of a group by its number.
+/// Returns the register of a group by its number.
 #[tactic(auto, unfolding(crate::specs::Settings::register_in))]
 pub fn register_in(setting: Setting, group: RegisterGroup, n: u8) -> Register
     ensures { result ≡ spec.register_in setting group n }
@@ -127,7 +128,7 @@ pub fn register_in(setting: Setting, group: RegisterGroup, n: u8) -> Register
     }
 }
 
-/// An access that happens under a condition.
+/// Returns the conditional form of an access.
 #[inline]
 pub fn conditional(access: AccessKind) -> AccessKind
     ensures { result ≡ spec.conditional access }
@@ -142,7 +143,7 @@ pub fn conditional(access: AccessKind) -> AccessKind
     }
 }
 
-/// What is done where a repeat prefix may have a counter of 0.
+/// Returns the access under a repeat prefix, whose counter may be 0.
 #[inline]
 pub fn done(setting: Setting, access: AccessKind) -> AccessKind
     ensures { result ≡ spec.done setting access }

@@ -17,8 +17,7 @@ pub fn append<const N: usize>(out: &mut ArrayVec<u8, N>, bytes: &[u8])
     }
 }
 
-/// Appends a few bytes one by one: where they stand in the program, that is fewer instructions than a copy and a test of
-/// the room.
+/// Appends a few bytes one by one. In place of a copy with a test of the space this saves machine instructions.
 #[inline(always)]
 pub fn append_few<const N: usize>(out: &mut ArrayVec<u8, N>, bytes: &[u8])
     requires { array_vec_len out.old + length bytes.now ≤ N }

@@ -10,7 +10,7 @@ use crate::row_types::{Map, Row};
 use crate::spelling::{PrefixState, Spelling, Vex};
 use x86_values::{Bits, Rep};
 
-/// The length of the VEX, else of the escape bytes of the map.
+/// Returns the length in bytes of the VEX, or of the map's escape bytes if there is none.
 #[inline]
 #[tactic(auto, unfolding(crate::specs::Bytes::lead_bytes, crate::specs::Bytes::vex_bytes))]
 pub fn lead_len(map: Map, vex: Option<Vex>) -> u8
@@ -38,7 +38,7 @@ fn spelled_map(map: Map, vex: Option<Vex>) -> Map
     }
 }
 
-/// What prefixes, VEX, map and opcode byte say, written to `out`.
+/// Writes to `out` the state that prefixes, VEX, map and opcode byte determine.
 // Most instructions have no prefix or a REX alone: neither takes a pass over the prefixes.
 #[inline(always)]
 pub fn state_into(
@@ -107,7 +107,7 @@ fn state_behind(
     };
 }
 
-/// The state of a spelling of the row.
+/// Returns the state of a spelling of the row.
 #[inline]
 #[tactic(auto, unfolding(crate::specs::Bytes::state_of, crate::specs::Bytes::front_bytes))]
 pub fn state_of(bits: Bits, row: &Row, s: &Spelling) -> PrefixState

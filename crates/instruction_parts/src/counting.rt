@@ -7,7 +7,7 @@ ghost use Rattle.instruction_parts.specs.Front as front;
 
 use x86_values::{Bits, Rep, Segment};
 
-/// F2 or F3.
+/// Returns whether a byte is F2 or F3.
 #[inline]
 pub fn is_repeat(b: u8) -> bool
     ensures { result ≡ spec.is_repeat b }
@@ -15,7 +15,7 @@ pub fn is_repeat(b: u8) -> bool
     b == 0xF2 || b == 0xF3
 }
 
-/// A segment prefix.
+/// Returns whether a byte is a segment prefix.
 #[inline]
 #[tactic(auto, unfolding(crate::specs::Counting::is_segment))]
 pub fn is_segment(b: u8) -> bool
@@ -24,7 +24,7 @@ pub fn is_segment(b: u8) -> bool
     b == 0x26 || b == 0x2E || b == 0x36 || b == 0x3E || b == 0x64 || b == 0x65
 }
 
-/// One of the eleven legacy prefixes.
+/// Returns whether a byte is one of the eleven legacy prefixes.
 #[inline]
 #[tactic(auto, unfolding(crate::specs::Counting::is_legacy_prefix))]
 pub fn is_legacy_prefix(b: u8) -> bool
@@ -33,7 +33,7 @@ pub fn is_legacy_prefix(b: u8) -> bool
     b == 0xF0 || is_repeat(b) || is_segment(b) || b == 0x66 || b == 0x67
 }
 
-/// 40 to 4F, a REX in 64-bit mode.
+/// Returns whether a byte is 40 to 4F, a REX in 64-bit mode.
 #[inline]
 pub fn is_rex(b: u8) -> bool
     ensures { result ≡ spec.is_rex b }
@@ -41,7 +41,7 @@ pub fn is_rex(b: u8) -> bool
     b / 16 == 4
 }
 
-/// Whether the mode is 64.
+/// Returns whether the mode is 64.
 #[inline]
 pub fn is_64(bits: Bits) -> bool
     ensures { result ≡ spec.is_64 bits }
@@ -52,7 +52,7 @@ pub fn is_64(bits: Bits) -> bool
     }
 }
 
-/// Whether a size is 16.
+/// Returns whether a size is 16.
 #[inline]
 pub fn is_16(bits: Bits) -> bool
     ensures { result ≡ spec.is_16 bits }
@@ -63,7 +63,7 @@ pub fn is_16(bits: Bits) -> bool
     }
 }
 
-/// Whether a size is 32.
+/// Returns whether a size is 32.
 #[inline]
 pub fn is_32(bits: Bits) -> bool
     ensures { result ≡ spec.is_32 bits }
@@ -74,7 +74,7 @@ pub fn is_32(bits: Bits) -> bool
     }
 }
 
-/// A prefix byte of the mode.
+/// Returns whether a byte is a prefix in the mode.
 #[inline]
 #[tactic(auto, unfolding(crate::specs::Counting::is_prefix))]
 pub fn is_prefix(bits: Bits, b: u8) -> bool
@@ -83,7 +83,7 @@ pub fn is_prefix(bits: Bits, b: u8) -> bool
     is_legacy_prefix(b) || (is_64(bits) && is_rex(b))
 }
 
-/// Whether LOCK occurs.
+/// Returns whether LOCK occurs.
 #[inline]
 #[tactic(auto, unfolding(crate::specs::Counting::has_lock))]
 pub fn has_lock(prefixes: &[u8]) -> bool
@@ -92,7 +92,7 @@ pub fn has_lock(prefixes: &[u8]) -> bool
     prefixes.iter().any(|b| *b == 0xF0)
 }
 
-/// Whether 66 occurs.
+/// Returns whether 66 occurs.
 #[inline]
 #[tactic(auto, unfolding(crate::specs::Counting::has_66))]
 pub fn has_66(prefixes: &[u8]) -> bool
@@ -101,7 +101,7 @@ pub fn has_66(prefixes: &[u8]) -> bool
     prefixes.iter().any(|b| *b == 0x66)
 }
 
-/// Whether 67 occurs.
+/// Returns whether 67 occurs.
 #[inline]
 #[tactic(auto, unfolding(crate::specs::Counting::has_67))]
 pub fn has_67(prefixes: &[u8]) -> bool
@@ -117,7 +117,7 @@ fn last_repeat(prefixes: &[u8]) -> Option<u8>
     prefixes.iter().rev().copied().find(|b| is_repeat(*b))
 }
 
-/// The counting repeat prefix.
+/// Returns the effective repeat prefix: the last F2 or F3.
 #[inline]
 #[tactic(auto, unfolding(crate::specs::Counting::counting_repeat))]
 pub fn counting_repeat(prefixes: &[u8]) -> Rep
@@ -129,7 +129,7 @@ pub fn counting_repeat(prefixes: &[u8]) -> Rep
     }
 }
 
-/// A segment by its prefix byte.
+/// Returns the segment that a prefix byte names.
 #[inline]
 #[tactic(auto, unfolding(crate::specs::Counting::segment_named))]
 pub fn segment_named(b: u8) -> Segment
@@ -176,7 +176,7 @@ fn counting_segment_byte(bits: Bits, prefixes: &[u8]) -> Option<u8>
     }
 }
 
-/// The counting segment prefix.
+/// Returns the effective segment prefix.
 #[inline]
 #[tactic(auto, unfolding(crate::specs::Counting::counting_segment))]
 pub fn counting_segment(bits: Bits, prefixes: &[u8]) -> Option<Segment>
@@ -188,7 +188,7 @@ pub fn counting_segment(bits: Bits, prefixes: &[u8]) -> Option<Segment>
     }
 }
 
-/// The counting REX: the last byte, where it is a REX and the mode is 64.
+/// Returns the effective REX: the last prefix byte, if it is a REX and the mode is 64.
 #[inline]
 #[tactic(auto, unfolding(crate::specs::Counting::counting_rex))]
 pub fn counting_rex(bits: Bits, prefixes: &[u8]) -> Option<u8>
@@ -210,7 +210,7 @@ fn has_repeat(prefixes: &[u8]) -> bool
     prefixes.iter().any(|b| is_repeat(*b))
 }
 
-/// A VEX stands only where nothing in front of it forbids it.
+/// Returns whether a prefix before a VEX makes it invalid.
 #[inline]
 #[tactic(auto, unfolding(crate::specs::Front::forbids_vex))]
 pub fn forbids_vex(bits: Bits, prefixes: &[u8]) -> bool

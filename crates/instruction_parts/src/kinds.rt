@@ -6,7 +6,7 @@ ghost use Rattle.instruction_parts.specs.Kinds.{method_of, file_of, memory_width
 
 use crate::row_types::OpKind;
 
-/// Where an operand is read.
+/// Where an operand is read from.
 #[derive(Clone, Copy)]
 pub enum Method {
     /// There is no operand.
@@ -45,7 +45,7 @@ pub enum Method {
     One,
 }
 
-/// Which registers a kind names.
+/// The registers that a kind names.
 #[derive(Clone, Copy)]
 pub enum File {
     Byte,
@@ -70,7 +70,7 @@ pub enum File {
     Vector,
 }
 
-/// How many bytes of memory, or of an immediate, a kind has.
+/// The number of bytes that a kind has in memory or in the immediates.
 #[derive(Clone, Copy)]
 pub enum Width {
     Zero,
@@ -86,9 +86,9 @@ pub enum Width {
     PointerOfSize,
 }
 
-/// Where an operand is read.
+/// Returns where an operand is read from.
 ///
-/// Built into its callers it is one look-up in a table.
+/// Inlined, it is one look-up in a table.
 #[inline(always)]
 #[tactic(auto, unfolding(crate::specs::Kinds::method_of))]
 pub fn method_of_kind(kind: OpKind) -> Method
@@ -149,7 +149,7 @@ pub fn method_of_kind(kind: OpKind) -> Method
     }
 }
 
-/// Which registers a kind names.
+/// Returns the registers that a kind names.
 #[inline(always)]
 #[tactic(auto, unfolding(crate::specs::Kinds::file_of))]
 pub fn file_of_kind(kind: OpKind) -> File
@@ -193,7 +193,7 @@ pub fn file_of_kind(kind: OpKind) -> File
     }
 }
 
-/// How many bytes an operand has in memory.
+/// Returns the number of bytes that an operand has in memory.
 #[tactic(auto, unfolding(crate::specs::Kinds::memory_width))]
 pub fn memory_width_of_kind(kind: OpKind) -> Width
     ensures value { result ≡ memory_width kind }
@@ -218,7 +218,7 @@ pub fn memory_width_of_kind(kind: OpKind) -> Width
     }
 }
 
-/// How many bytes of the immediates belong to an operand.
+/// Returns the number of bytes of the immediates that belong to an operand.
 #[tactic(auto, unfolding(crate::specs::Kinds::immediate_width))]
 pub fn immediate_width_of_kind(kind: OpKind) -> Width
     ensures value { result ≡ immediate_width kind }
@@ -234,7 +234,7 @@ pub fn immediate_width_of_kind(kind: OpKind) -> Width
     }
 }
 
-/// The number of the register that a fixed operand names.
+/// Returns the number of the register that a fixed operand names.
 #[tactic(auto, unfolding(crate::specs::Kinds::fixed_number))]
 pub fn fixed_number_of_kind(kind: OpKind) -> u8
     ensures { result ≡ fixed_number kind }

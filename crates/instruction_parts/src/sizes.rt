@@ -9,7 +9,7 @@ use crate::row_types::{Row, RowKind};
 use crate::spelling::PrefixState;
 use x86_values::Bits;
 
-/// Bit n of a byte.
+/// Returns bit `n` of a byte.
 #[inline]
 pub fn bit_of_byte(n: u8, b: u8) -> bool
     requires { n < 8 }
@@ -18,7 +18,7 @@ pub fn bit_of_byte(n: u8, b: u8) -> bool
     (b >> n) % 2 == 1
 }
 
-/// Bit n of the counting REX, 0 without one.
+/// Returns bit `n` of the effective REX, or 0 without one.
 #[inline]
 pub fn bit_of_rex(n: u8, rex: Option<u8>) -> bool
     requires { n < 8 }
@@ -30,7 +30,7 @@ pub fn bit_of_rex(n: u8, rex: Option<u8>) -> bool
     }
 }
 
-/// Whether the row is lockable.
+/// Returns whether the row allows LOCK.
 #[inline]
 pub fn is_lockable(row: &Row) -> bool
     ensures { result ≡ spec.is_lockable row.now }
@@ -38,7 +38,7 @@ pub fn is_lockable(row: &Row) -> bool
     row.marks.0 & 1 == 1
 }
 
-/// Whether the row has the mark a.
+/// Returns whether the row has the mark `ADDRESS`.
 #[inline]
 pub fn has_address_mark(row: &Row) -> bool
     ensures { result ≡ spec.has_address_mark row.now }
@@ -46,7 +46,7 @@ pub fn has_address_mark(row: &Row) -> bool
     row.marks.0 & 2 == 2
 }
 
-/// Whether the row has the mark ^.
+/// Returns whether the row has the mark `CARET`.
 #[inline]
 pub fn has_caret(row: &Row) -> bool
     ensures { result ≡ spec.has_caret row.now }
@@ -54,7 +54,7 @@ pub fn has_caret(row: &Row) -> bool
     row.marks.0 & 8 == 8
 }
 
-/// Whether the row has the mark !.
+/// Returns whether the row has the mark `BANG`.
 #[inline]
 pub fn has_bang(row: &Row) -> bool
     ensures { result ≡ spec.has_bang row.now }
@@ -62,7 +62,7 @@ pub fn has_bang(row: &Row) -> bool
     row.marks.0 & 16 == 16
 }
 
-/// Whether the row exists in the mode.
+/// Returns whether the row exists in the mode.
 #[inline]
 #[tactic(auto, unfolding(crate::specs::Sizes::exists_in))]
 pub fn exists_in(bits: Bits, row: &Row) -> bool
@@ -75,7 +75,7 @@ pub fn exists_in(bits: Bits, row: &Row) -> bool
     }
 }
 
-/// Whether the row is a VEX row.
+/// Returns whether the row is a VEX row.
 #[inline]
 pub fn is_vex_row(row: &Row) -> bool
     ensures { result ≡ spec.is_vex_row row.now }
@@ -86,7 +86,7 @@ pub fn is_vex_row(row: &Row) -> bool
     }
 }
 
-/// The operand size of a row in a mode, under REX.W and 66.
+/// Returns the operand size of a row in a mode, with or without REX.W and 66.
 #[inline]
 #[tactic(auto, unfolding(crate::specs::Sizes::operand_size))]
 pub fn operand_size(bits: Bits, row: &Row, w: bool, size66: bool) -> Bits
@@ -111,7 +111,7 @@ pub fn operand_size(bits: Bits, row: &Row, w: bool, size66: bool) -> Bits
     }
 }
 
-/// The address size of a mode under 67.
+/// Returns the address size of a mode, with or without 67.
 #[inline]
 #[tactic(auto, unfolding(crate::specs::Sizes::address_size))]
 pub fn address_size(bits: Bits, addr67: bool) -> Bits
@@ -127,7 +127,7 @@ pub fn address_size(bits: Bits, addr67: bool) -> Bits
     }
 }
 
-/// The bytes of a size.
+/// Returns the number of bytes of a size.
 #[inline]
 pub fn size_bytes(bits: Bits) -> u8
     ensures { result ≡ spec.size_bytes bits }
@@ -139,7 +139,7 @@ pub fn size_bytes(bits: Bits) -> u8
     }
 }
 
-/// R adds 8 to ModRM.reg.
+/// Returns R, which adds 8 to ModRM.reg.
 #[inline]
 #[tactic(auto, unfolding(crate::specs::Sizes::bit_r))]
 pub fn bit_r(state: &PrefixState) -> bool
@@ -151,7 +151,7 @@ pub fn bit_r(state: &PrefixState) -> bool
     }
 }
 
-/// X adds 8 to SIB.index.
+/// Returns X, which adds 8 to SIB.index.
 #[inline]
 #[tactic(auto, unfolding(crate::specs::Sizes::bit_x))]
 pub fn bit_x(state: &PrefixState) -> bool
@@ -163,7 +163,7 @@ pub fn bit_x(state: &PrefixState) -> bool
     }
 }
 
-/// B adds 8 to ModRM.rm, to SIB.base or to the register in the opcode byte.
+/// Returns B, which adds 8 to ModRM.rm, to SIB.base or to the register in the opcode byte.
 #[inline]
 #[tactic(auto, unfolding(crate::specs::Sizes::bit_b))]
 pub fn bit_b(bits: Bits, state: &PrefixState) -> bool
@@ -176,7 +176,7 @@ pub fn bit_b(bits: Bits, state: &PrefixState) -> bool
         }
 }
 
-/// W, which is ignored outside 64-bit mode.
+/// Returns W, which is ignored outside 64-bit mode.
 #[inline]
 #[tactic(auto, unfolding(crate::specs::Sizes::bit_w))]
 pub fn bit_w(bits: Bits, state: &PrefixState) -> bool
@@ -189,7 +189,7 @@ pub fn bit_w(bits: Bits, state: &PrefixState) -> bool
         }
 }
 
-/// The operand size under the prefixes of a state.
+/// Returns the operand size under the prefixes of a state.
 #[inline]
 #[tactic(auto, unfolding(crate::specs::Sizes::state_size))]
 pub fn state_size(bits: Bits, row: &Row, state: &PrefixState) -> Bits
@@ -198,7 +198,7 @@ pub fn state_size(bits: Bits, row: &Row, state: &PrefixState) -> Bits
     operand_size(bits, row, bit_of_rex(3, state.rex), state.size66)
 }
 
-/// The address size under the prefixes of a state.
+/// Returns the address size under the prefixes of a state.
 #[inline]
 pub fn state_address_size(bits: Bits, state: &PrefixState) -> Bits
     ensures { result ≡ spec.state_address_size bits state.now }

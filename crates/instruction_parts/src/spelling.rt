@@ -4,10 +4,9 @@ use crate::row_types::Map;
 use arrayvec::ArrayVec;
 use x86_values::{Rep, Segment};
 
-/// The fields of a VEX (2.3.5). Those that are stored inverted, `r`, `x`, `b` and `vvvv`, are kept after inversion.
+/// The fields of a VEX (Intel SDM volume 2, 2.3.5). The fields that are encoded inverted (`r`, `x`, `b`, `vvvv`) are kept after inversion.
 ///
-/// `vvvv` is 0 to 15 and `pp` 0 to 3. A VEX of two bytes has `x`, `b` and `w` false and the map 0F; no VEX has the
-/// one-byte map.
+/// `vvvv` is 0 to 15 and `pp` 0 to 3. A two-byte VEX has `x`, `b` and `w` false and the map 0F. No VEX has the one-byte map.
 #[derive(Clone, Copy, PartialEq, Eq, Debug)]
 pub struct Vex {
     /// Whether it has three bytes, else two.
@@ -22,7 +21,7 @@ pub struct Vex {
     pub pp: u8,
 }
 
-/// The fields of a ModRM byte (2.1.3), as they stand in it: `mode3`, the field mod, is 0 to 3, `reg` and `rm` are 0 to 7.
+/// The fields of a ModRM byte as encoded (Intel SDM volume 2, 2.1.3): `mode3`, the field mod, is 0 to 3; `reg` and `rm` are 0 to 7.
 #[derive(Clone, Copy, PartialEq, Eq, Debug)]
 pub struct ModRm {
     pub mode3: u8,
@@ -30,7 +29,7 @@ pub struct ModRm {
     pub rm: u8,
 }
 
-/// The fields of a SIB byte (2.1.3), as they stand in it: `scale` is 0 to 3, `index` and `base` are 0 to 7.
+/// The fields of a SIB byte as encoded (Intel SDM volume 2, 2.1.3): `scale` is 0 to 3; `index` and `base` are 0 to 7.
 #[derive(Clone, Copy, PartialEq, Eq, Debug)]
 pub struct Sib {
     pub scale: u8,
@@ -38,11 +37,11 @@ pub struct Sib {
     pub base: u8,
 }
 
-/// The parts of an instruction's bytes, in order (2.1, figure 2-1).
+/// The parts of an instruction's bytes, in order (Intel SDM volume 2, 2.1, figure 2-1).
 ///
-/// `prefixes` has the legacy prefixes and REX bytes as they stand. The escape bytes of a map are not among the parts:
-/// the row gives them. An absolute address stands in `disp`; code offsets, far pointers and a register in the last byte
-/// stand in `imm`. The parts together may have more than the 15 bytes of an instruction.
+/// `prefixes` has the legacy prefixes and REX bytes as encoded. The escape bytes of the map are no part: the row determines them. `disp` also holds
+/// an absolute address; `imm` also holds code offsets, far pointers and a register in the last byte. The parts together can have more than the 15
+/// bytes of an instruction.
 #[derive(Drop)]
 pub struct Spelling {
     pub prefixes: ArrayVec<u8, 15>,
@@ -54,7 +53,7 @@ pub struct Spelling {
     pub imm: ArrayVec<u8, 8>,
 }
 
-/// What the bytes up to and with the opcode byte say: the front of an instruction (2.1.1, 2.2.1, 2.3.5).
+/// The front of an instruction: what its bytes up to and including the opcode byte determine (Intel SDM volume 2, 2.1.1, 2.2.1 and 2.3.5).
 #[derive(Clone, Copy, PartialEq, Eq, Debug)]
 pub struct PrefixState {
     /// How many bytes precede the opcode byte: prefixes, and a VEX or escape bytes.

@@ -8,7 +8,7 @@ use crate::generated_buckets::{ORDER, STARTS};
 use opcode_rows::ROWS;
 use x86_values::Code;
 
-/// Indices in the order of the codes by their names: those from the first up to the end, which is not one of them.
+/// Consecutive indices into the codes in the order of their names: from the first one up to the end, which is excluded.
 #[derive(Clone, Copy)]
 pub struct Indices {
     pub first: u16,
@@ -35,7 +35,7 @@ fn start_at(bucket: u16) -> u16
     STARTS[bucket as usize]
 }
 
-/// Indices among which is that of each code whose row has this name, a mnemonic in lower case; there are few others among them.
+/// Returns indices that include every code whose row has this name, a mnemonic in lower case, and few others.
 pub fn indices_of(name: &[u8]) -> Indices
     ensures { (code : ℕ) → code < ROWS → name_of code ≡ name.now → (k : ℕ) × (result.first ≤ k) × (k < result.end) × (slice_get order k ≡ Some code) }
 {
@@ -46,7 +46,7 @@ pub fn indices_of(name: &[u8]) -> Indices
     }
 }
 
-/// The code at an index.
+/// Returns the code at an index.
 pub fn code_at(index: u16) -> Code
     requires { index < ROWS }
     ensures { slice_get order index ≡ Some result.0 }

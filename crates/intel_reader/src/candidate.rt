@@ -44,7 +44,7 @@ fn displacement_from(asize: Bits, disp: Option<SignedText>) -> u64
     }
 }
 
-/// The address whose text has this inside its brackets.
+/// Returns the address whose text has these words inside its brackets.
 #[tactic(auto, unfolding(crate::specs::Candidate::address_from))]
 pub fn address_from(asize: Bits, disp_size: DispSize, inside: Inside) -> Mem
     ensures { result ≡ spec.address_from asize disp_size inside }
@@ -81,7 +81,7 @@ pub fn address_from(asize: Bits, disp_size: DispSize, inside: Inside) -> Mem
     }
 }
 
-/// Whether operand n of the row is a near target.
+/// Returns whether operand `n` of the row is a near target.
 #[tactic(auto, unfolding(crate::specs::Operands::is_near))]
 pub fn is_near_at(row: &Row, n: usize) -> bool
     requires { n < 4 }
@@ -93,7 +93,7 @@ pub fn is_near_at(row: &Row, n: usize) -> bool
     }
 }
 
-/// The operand of these words: a number is a near target or an immediate.
+/// Returns the operand that these words stand for. A number is a near target or an immediate.
 #[tactic(auto, unfolding(crate::specs::Candidate::operand_from))]
 pub fn operand_from(near: bool, asize: Bits, disp_size: DispSize, words: OperandText) -> Operand
     ensures { result ≡ spec.operand_from near asize disp_size words }
@@ -140,7 +140,7 @@ fn segment_from(words: &IntelWords) -> Option<Segment>
     segment_or(words.ops[0], second)
 }
 
-/// The instruction of these words, of a row and its code, with an address size that it may have, and this displacement size in its address.
+/// Returns the instruction that these words stand for with a row and its code, one of its address sizes, and one displacement size.
 #[tactic(auto, unfolding(crate::specs::Candidate::candidate))]
 pub fn candidate(
     bits: Bits,

@@ -336,7 +336,7 @@ fn first_among(bits: Bits, ip: u64, text: &[u8], words: &IntelWords, word: &[u8]
     best
 }
 
-/// The first of all candidates of a text.
+/// Returns the first of all candidates of a text.
 pub fn first_of(bits: Bits, ip: u64, text: &[u8]) -> Option<Found>
     ensures first { IfSome result (λ f. IsFirst bits ip text.now (assembly_of f)) }
     ensures none { IsNone result → IsNoText bits ip text.now }

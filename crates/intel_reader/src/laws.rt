@@ -8,8 +8,8 @@ ghost use Rattle.intel_reader.specs.Candidate.{HasSize};
 
 use intel_words::laws::texts_show_words;
 
-/// Two instructions with plain spellings at one address in one mode are equal where they agree in code, in their Intel text, in address size and in the
-/// displacement size of their address, if they have one.
+/// Two instructions that have plain spellings at one address in one mode are equal if they agree in code, Intel text, address size and, if they have
+/// an address, displacement size.
 pub fn texts_tell_apart()
     ensures { (bits : Bits) (ip : ℕ) (text : List ℕ) (a b : Assembly) (size : DispSize) → IsCandidate bits ip text a → IsCandidate bits ip text b
         → a.instr.code ≡ b.instr.code → a.instr.asize ≡ b.instr.asize → HasSize size a.instr → HasSize size b.instr → a.instr ≡ b.instr }

@@ -61,7 +61,7 @@ fn displacement_of_words(words: &IntelWords, size: DispSize) -> u8
     }
 }
 
-/// The fewest bytes of an instruction of a row with these words and this displacement size.
+/// Returns the minimum length in bytes of an instruction of a row with these words and this displacement size.
 #[tactic(auto, unfolding(crate::specs::Lengths::least_len))]
 pub fn least_len(bits: Bits, row: &Row, words: &IntelWords, size: DispSize) -> u8
     ensures { result ≡ spec.least_len bits row.now words.now size }

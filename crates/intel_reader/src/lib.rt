@@ -24,7 +24,7 @@ use choice::first_of;
 use thiserror::Error;
 use x86_values::{Bits, Instr};
 
-/// Why a text is not read.
+/// Why a text cannot be read.
 #[derive(Clone, Copy, PartialEq, Eq, Debug, Error)]
 pub enum TextError {
     /// No instruction that has a plain spelling at the address has this text.
@@ -32,12 +32,16 @@ pub enum TextError {
     NoInstruction,
 }
 
-/// The instruction that an Intel text stands for in a mode at an address.
+/// Returns the instruction that an Intel text stands for in a mode at an address.
 ///
-/// `ip` is the address of the first byte, taken modulo 2 to the number of bits of the mode. The text is one that the printer writes: ASCII, lower case,
-/// with its very spaces. Of all instructions with this text that have a plain spelling of at most 15 bytes there, it is the one whose plain spelling is
-/// shortest; of these the one with the least code; of these the one with the least bytes. It is well formed, so that it can be printed. It is refused
-/// exactly where there is none.
+/// `ip` is the address of the first byte; it wraps at the address size of the mode. The text must be exactly as the printer writes it: ASCII, lower
+/// case, with the same spaces. Several instructions can have this text and a plain spelling of at most 15 bytes. The result is the one with the
+/// shortest plain spelling, then with the lowest code, then with the lowest bytes. It is well-formed, so it can be printed. The call fails exactly if
+/// there is no such instruction.
+///
+/// ```
+/// let jump = read_intel(Bits::B64, 0x40_1000, b"jmp 0x401080")?;
+/// ```
 pub fn read_intel(bits: Bits, ip: u64, text: &[u8]) -> Result<Instr, TextError>
     ensures assembled { IfOk result (λ i. IsAssembled bits ip text.now i) }
     ensures none { IsErr result ↔ IsNoText bits ip text.now }
@@ -50,8 +54,13 @@ pub fn read_intel(bits: Bits, ip: u64, text: &[u8]) -> Result<Instr, TextError>
     }
 }
 
-/// The bytes that an Intel text stands for in a mode at an address: the plain spelling, 1 to 15 bytes, of the instruction of [`read_intel`], with its
-/// refusal.
+/// Assembles an Intel text in a mode at an address. Returns the plain spelling, 1 to 15 bytes, of the instruction that [`read_intel`] returns. Errors
+/// are those of [`read_intel`].
+///
+/// ```
+/// let bytes = assemble(Bits::B64, 0x40_1000, b"add r12, rax")?;
+/// println!(rt; "{}", hex::encode(rt.alloc(), &bytes)?)?; // 4901c4
+/// ```
 pub fn assemble(bits: Bits, ip: u64, text: &[u8]) -> Result<ArrayVec<u8, 15>, TextError>
     ensures assembled { IfOk result (λ bytes. AssemblesTo bits ip text.now bytes.items) }
     ensures none { IsErr result ↔ IsNoText bits ip text.now }

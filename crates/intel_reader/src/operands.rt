@@ -13,7 +13,7 @@ use crate::generated_operands::OPERANDS;
 use opcode_rows::ROWS;
 use x86_values::{Bits, Code, Register};
 
-/// What an Intel text shows of an operand, as far as it tells rows apart.
+/// What the text of an operand shows, as far as it distinguishes rows.
 #[derive(Clone, Copy)]
 pub enum OperandClass {
     /// There is no such operand.
@@ -51,7 +51,7 @@ fn one_of(first: bool, a: OperandClass, b: OperandClass) -> OperandClass
     if first { a } else { b }
 }
 
-/// The class of a register.
+/// Returns the class of a register.
 #[tactic(auto, unfolding(crate::specs::Operands::class_of_register))]
 pub fn class_of_register(register: Register) -> OperandClass
     ensures { result ≡ spec.class_of_register register }
@@ -104,7 +104,7 @@ fn flag_of_mode(bits: Bits) -> u64
     }
 }
 
-/// What [`takes`] asks of a row in a mode for operands of these four classes, as flags.
+/// Returns, as flags, what [`takes`] requires of a row in a mode for operands of these four classes.
 pub fn flags_of_classes(
     bits: Bits,
     a: OperandClass,
@@ -138,8 +138,8 @@ fn takes(code: Code, asked: u64) -> bool
     flags_of(code) & asked == asked
 }
 
-/// Whether the row whose code stands at an index exists in a mode and takes operands of four classes, which [`flags_of_classes`] made the flags of; false where none
-/// stands there.
+/// Returns whether the row of the code at an index exists in a mode and takes operands of four classes, given as the flags of [`flags_of_classes`];
+/// false if there is no code at the index.
 pub fn takes_at(index: u16, asked: u64) -> bool
     ensures { (bits : Bits) (a b c d : OperandClass) (code : ℕ) (row : Row) → asked ≡ spec.number_of (spec.asked_flags bits a b c d)
         → slice_get order index ≡ Some code → slice_get table code ≡ Some row → result ≡ spec.takes bits row a b c d }

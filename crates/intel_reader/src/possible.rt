@@ -28,7 +28,7 @@ fn class_of(text: &OperandText) -> OperandClass
     }
 }
 
-/// What the words ask of a row in a mode, as flags.
+/// Returns, as flags, what the words require of a row in a mode.
 pub fn asked_by(bits: Bits, words: &IntelWords) -> u64
     ensures { result ≡ number_of (spec.asked_by bits words.now) }
 {
@@ -52,7 +52,7 @@ fn is_address(text: &OperandText) -> bool
     }
 }
 
-/// Whether some operand is an address.
+/// Returns whether some operand is an address.
 #[tactic(auto, unfolding(crate::specs::Possible::has_address))]
 pub fn has_address(words: &IntelWords) -> bool
     ensures { result ≡ spec.has_address words.now }
@@ -63,7 +63,7 @@ pub fn has_address(words: &IntelWords) -> bool
         || is_address(&words.ops[3])
 }
 
-/// Whether an instruction of the row with these words has an address size.
+/// Returns whether an instruction of the row with these words has an address size.
 pub fn has_size(row: &Row, words: &IntelWords) -> bool
     ensures { result ≡ spec.has_size row.now words.now }
 {
@@ -86,7 +86,7 @@ fn text_agrees(asize: Bits, text: OperandText) -> bool
     }
 }
 
-/// Whether an instruction of the row with these words may have this address size.
+/// Returns whether an instruction of the row with these words can have this address size.
 #[tactic(auto, unfolding(crate::specs::Possible::size_allowed))]
 pub fn size_allowed(bits: Bits, row: &Row, words: &IntelWords, asize: Option<Bits>) -> bool
     ensures { result ≡ spec.size_allowed bits row.now words.now asize }
@@ -148,7 +148,7 @@ fn nth_offers(
     )
 }
 
-/// Whether the addresses of an instruction of the row with these words may have this displacement size.
+/// Returns whether the addresses of an instruction of the row with these words can have this displacement size.
 #[tactic(auto, unfolding(crate::specs::Possible::displacement_allowed))]
 pub fn displacement_allowed(
     bits: Bits,

@@ -13,8 +13,7 @@ use text_parts::text::{TEXT_LEN, Text};
 use text_rows::append_bracket_text;
 use x86_values::{Bits, Instr};
 
-/// Appends the text of a well-formed instruction in the Intel style, in a mode: ASCII, at most `TEXT_LEN` bytes, for which there is
-/// room.
+/// Appends the Intel text of a well-formed instruction in a mode: ASCII, at most `TEXT_LEN` bytes. `out` must have that much space left.
 #[tactic(auto, unfolding(crate::specs::Text::text, crate::specs::Text::text_of, text_rows::specs::BracketText::bracket_text))]
 pub fn print_to<const N: usize>(out: &mut ArrayVec<u8, N>, bits: Bits, instr: &Instr)
     requires well { IsTrue (is_well_formed instr.now) }
@@ -26,7 +25,9 @@ pub fn print_to<const N: usize>(out: &mut ArrayVec<u8, N>, bits: Bits, instr: &I
     append_bracket_text(out, Style::Intel, bits, instr);
 }
 
-/// The text of a well-formed instruction in the Intel style, in a mode: ASCII, at most `TEXT_LEN` bytes.
+/// Returns the Intel text of a well-formed instruction in a mode: ASCII, at most `TEXT_LEN` bytes.
+///
+/// The text has no address and no line feed. `intel_reader::assemble` reads it back.
 pub fn print(bits: Bits, instr: &Instr) -> Text
     requires { IsTrue (is_well_formed instr.now) }
     ensures items { result.items ≡ spec.text bits instr.now }

@@ -156,7 +156,7 @@ fn relative_in(name: &[u8], text: &[u8]) -> Option<Inside>
     }
 }
 
-/// What stands inside the brackets, from behind the opening one on.
+/// Returns what is inside the brackets, given the text after the opening one.
 #[tactic(auto, unfolding(crate::specs::ReadAddresses::inside_in))]
 pub fn inside_in(text: &[u8]) -> Option<Inside>
     ensures { result ≡ spec.inside_in text.now }

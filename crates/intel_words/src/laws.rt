@@ -9,7 +9,7 @@ ghost use Rattle.text_parts.specs.Layout.{bracket_layout};
 ghost use Rattle.intel_words.specs.Printable.{is_printable};
 ghost use Rattle.intel_words.specs.Words.{words_of};
 
-/// A text shows its words: two instructions that have it, of whatever rows and names, have the same words.
+/// A text determines its words: two instructions with the same text have the same words, whatever their rows and names are.
 #[inline]
 pub fn texts_show_words()
     ensures { (bits : Bits) (row other : Row) (name another : List ℕ) (i j : Instr) → IsTrue (is_printable bits row name i)

@@ -18,7 +18,7 @@ fn number_in(digits: &[u8]) -> Option<u64>
     }
 }
 
-/// The number that a word names: `0x` and its digits.
+/// Returns the number that a word names: `0x` and its digits.
 #[tactic(auto, unfolding(crate::specs::ReadNumbers::number_named))]
 pub fn number_named(word: &[u8]) -> Option<u64>
     ensures { result ≡ spec.number_named word.now }
@@ -30,7 +30,7 @@ pub fn number_named(word: &[u8]) -> Option<u64>
     }
 }
 
-/// The value of a decimal digit.
+/// Returns the value of a decimal digit.
 #[inline]
 #[tactic(auto, unfolding(crate::specs::ReadNumbers::decimal_digit))]
 pub fn decimal_digit(c: u8) -> Option<u8>
@@ -56,7 +56,7 @@ fn teen(c: u8) -> Option<u8>
     }
 }
 
-/// A number from 0 to 15 in decimal.
+/// Returns a decimal number from 0 to 15.
 #[tactic(auto, unfolding(crate::specs::ReadNumbers::decimal_in))]
 pub fn decimal_in(digits: &[u8]) -> Option<u8>
     ensures { result ≡ spec.decimal_in digits.now }

@@ -148,7 +148,7 @@ fn some_operand(text: &[u8]) -> Option<OperandText>
     }
 }
 
-/// The operand of a text.
+/// Returns the operand that a text stands for.
 #[tactic(auto, unfolding(crate::specs::ReadAddresses::operand_in))]
 pub fn operand_in(text: &[u8]) -> Option<OperandText>
     ensures { result ≡ spec.operand_in text.now }

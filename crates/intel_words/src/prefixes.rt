@@ -9,7 +9,7 @@ use crate::registers::segment_named;
 use crate::scanning::{skip_if, word};
 use x86_values::{Bits, Rep, Segment};
 
-/// The words in front of a name, and the text from the name on.
+/// The words before a name, and the text from the name on.
 #[derive(Clone, Copy)]
 pub struct Prefixes<'t> {
     pub lock: bool,
@@ -85,7 +85,7 @@ fn size_behind(letter: u8, name: &[u8]) -> Option<Bits>
     }
 }
 
-/// The words in front of the name.
+/// Reads the words before the name.
 #[tactic(auto, unfolding(crate::specs::ReadWords::behind_lock, crate::specs::ReadWords::behind_repeat, crate::specs::ReadWords::behind_segment, crate::specs::ReadWords::behind_size_word))]
 pub fn read_prefixes(text: &[u8]) -> Prefixes
     ensures lock { result.lock ≡ spec.is_lock (word text.now) }

@@ -50,10 +50,9 @@ fn operands_in(text: &[u8]) -> Option<[OperandText; 4]>
     )
 }
 
-/// The words of a text, where it has the form of an Intel text. It takes no memory.
+/// Returns the words of a text that has the form of an Intel text. It allocates nothing.
 ///
-/// The words of each text that is printed are read as they were printed; a text that nothing prints may be refused, or may
-/// have words too.
+/// Printed text reads back as the words that it was printed from. Text that nothing prints may be refused, or may have words too.
 pub fn read_words<'t>(text: &'t [u8]) -> Option<NamedWords<'t>>
     ensures printed { (bits : Bits) → (row : Row) → (name : List ℕ) → (instr : Instr) → IsTrue (is_printable bits row name instr)
         → bracket_layout Intel bits row name instr ≡ text.now

@@ -24,7 +24,7 @@ fn segment_by(a: u8) -> Option<Segment>
     }
 }
 
-/// The segment of this name.
+/// Returns the segment with this name.
 #[inline]
 #[tactic(auto, unfolding(crate::specs::ReadRegisters::segment_of_word))]
 pub fn segment_named(name: &[u8]) -> Option<Segment>
@@ -238,7 +238,7 @@ fn register_from(a: u8, more: &[u8]) -> Option<Register>
     }
 }
 
-/// The register of this name.
+/// Returns the register with this name.
 #[tactic(auto, unfolding(crate::specs::ReadRegisters::register_named))]
 pub fn register_named(name: &[u8]) -> Option<Register>
     ensures { result ≡ spec.register_named name.now }

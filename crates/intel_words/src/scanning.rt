@@ -49,7 +49,7 @@ fn token_len(text: &[u8]) -> usize
     text.len()
 }
 
-/// The word at the front, and what follows it.
+/// Splits a text into its first word and the rest.
 #[inline]
 pub fn split_word(text: &[u8]) -> (&[u8], &[u8])
     ensures word { result.0.now ≡ spec.word text.now }
@@ -58,7 +58,7 @@ pub fn split_word(text: &[u8]) -> (&[u8], &[u8])
     text.split_at(word_len(text))
 }
 
-/// The word at the front.
+/// Returns the first word.
 #[inline]
 pub fn word(text: &[u8]) -> &[u8]
     ensures { result.now ≡ spec.word text.now }
@@ -66,7 +66,7 @@ pub fn word(text: &[u8]) -> &[u8]
     split_word(text).0
 }
 
-/// What follows the word at the front.
+/// Returns what follows the first word.
 #[inline]
 pub fn behind(text: &[u8]) -> &[u8]
     ensures { result.now ≡ spec.rest_behind text.now }
@@ -74,7 +74,7 @@ pub fn behind(text: &[u8]) -> &[u8]
     split_word(text).1
 }
 
-/// The first byte, 0 of none.
+/// Returns the first byte, or 0 if there is none.
 #[inline]
 #[tactic(auto, unfolding(crate::specs::Scanning::first))]
 pub fn first(text: &[u8]) -> u8
@@ -86,7 +86,7 @@ pub fn first(text: &[u8]) -> u8
     }
 }
 
-/// All but the first byte.
+/// Returns all but the first byte.
 #[inline]
 #[tactic(auto, unfolding(crate::specs::Scanning::rest))]
 pub fn rest(text: &[u8]) -> &[u8]
@@ -98,7 +98,7 @@ pub fn rest(text: &[u8]) -> &[u8]
     }
 }
 
-/// The operand at the front, and the text of the next one behind its comma and space.
+/// Splits a text into its first operand and the text of the next one, after the comma and the space.
 #[inline]
 pub fn split_operand(text: &[u8]) -> (&[u8], &[u8])
     ensures token { result.0.now ≡ spec.token text.now }
@@ -108,7 +108,7 @@ pub fn split_operand(text: &[u8]) -> (&[u8], &[u8])
     (token, rest(rest(behind)))
 }
 
-/// What follows a word and the byte that ends it, where the word is passed.
+/// Returns what follows a word and the byte that ends it, if the word is there.
 #[inline]
 #[tactic(auto, unfolding(crate::specs::Scanning::skip_if))]
 pub fn skip_if(passed: bool, text: &[u8]) -> &[u8]

@@ -2,7 +2,7 @@
 
 use x86_values::{Bits, Register, Rep, Segment};
 
-/// The words of an Intel text besides its name.
+/// The words of an Intel text without its name.
 #[derive(Clone, Copy, PartialEq, Eq, Debug)]
 pub struct IntelWords {
     /// Whether the text begins with `lock`.
@@ -19,15 +19,14 @@ pub struct IntelWords {
     pub ops: [OperandText; 4],
 }
 
-/// The words of an Intel text with the name as it is written there: that of the jump on the counter is `jcxz`, `jecxz` or
-/// `jrcxz`.
+/// The words of an Intel text with the name as written: the jump on the counter is `jcxz`, `jecxz` or `jrcxz`.
 #[derive(Clone, Copy, PartialEq, Eq, Debug)]
 pub struct NamedWords<'t> {
     pub name: &'t [u8],
     pub words: IntelWords,
 }
 
-/// What the text of an operand says.
+/// The content of an operand's text.
 #[derive(Clone, Copy, PartialEq, Eq, Debug)]
 pub enum OperandText {
     /// There is no such operand.
@@ -42,7 +41,7 @@ pub enum OperandText {
     Mem(AddressText),
 }
 
-/// What the text of an address says.
+/// The content of an address's text.
 #[derive(Clone, Copy, PartialEq, Eq, Debug)]
 pub struct AddressText {
     /// The size word in front.
@@ -53,8 +52,7 @@ pub struct AddressText {
     pub inside: Inside,
 }
 
-/// A size word in front of an address: of 1, 2, 4, 8, 10, 16 or 32 bytes, or of a far pointer with an offset of 16, 32 or 64
-/// bits.
+/// A size word before an address: of 1, 2, 4, 8, 10, 16 or 32 bytes, or of a far pointer with an offset of 16, 32 or 64 bits.
 #[derive(Clone, Copy, PartialEq, Eq, Debug)]
 pub enum SizeName {
     None,
@@ -70,7 +68,7 @@ pub enum SizeName {
     Far64,
 }
 
-/// What stands inside the brackets of an address.
+/// What is inside the brackets of an address.
 #[derive(Clone, Copy, PartialEq, Eq, Debug)]
 pub enum Inside {
     /// Nothing.
@@ -83,7 +81,7 @@ pub enum Inside {
     Sum(SumText),
 }
 
-/// A base, an index and a displacement, at least one of the registers being there.
+/// A base, an index and a displacement; at least one of the registers is present.
 #[derive(Clone, Copy, PartialEq, Eq, Debug)]
 pub struct SumText {
     /// A register without a scale that comes first.

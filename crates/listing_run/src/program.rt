@@ -163,53 +163,53 @@ fn answer<S: Source, K: Sink>(
     }
 }
 
-/// Does what the words of a command line ask for.
+/// Executes the command that the words of a command line give.
 ///
 /// For every mode, every address and all bytes:
 ///
-/// - The listing shows exactly the instructions that the table spells, with their lengths, and single bytes elsewhere: `answer` says so by
-///   `WritesLines`, over the sweep of the bytes that were read, and `complete` that nothing but lack of memory or a stated limit hinders it.
+/// - The listing shows exactly the instructions that the table spells, with their lengths, and single bytes elsewhere. `answer` states this by
+///   `WritesLines`, over the sweep of the input. `complete` states that only lack of memory or a stated limit prevents it.
 /// - `recode` shows the plain spelling of each instruction that has one, and names why another has none: `answer`, by the same lines.
 /// - `flow` shows exactly the offsets that control reaches from the first byte, each with the leader of its basic block: `answer` by `FlowsAs`, over
 ///   `IsFlowGraph`, and `complete` by `CompletesFlow`.
-/// - `asm` writes the bytes of Intel texts: for each line the shortest bytes that have this text where the line stands: `answer` by `AssemblesAs`, over
+/// - `asm` writes the bytes of Intel texts, for each line the shortest bytes that print as this text at its address: `answer` by `AssemblesAs`, over
 ///   `IsCodeOfLines`, and `complete` by `CompletesAssembling`.
-/// - `slots` gives each instruction a slot with exactly its block, and every other byte of the range is CC: `answer` says so by `SlotsAs`, over `AreSlotted`
-///   and `HoldsSlots`. `complete` says by `CompletesSlots` that an instruction is refused only where no gap is left or it does not reach its target.
-/// - Moved blocks decode to the images of the old instructions in the least layout, and each image goes to the old target or to its moved copy: `answer`
-///   says by `MovesAs` that the blocks are moved (`IsMoved`), that they decode so (`IsMovedReadBack`), and where each image goes (`GoesToGoal`). Moving is
-///   refused only at the first operand that does not reach, or for a stated limit: `answer` says when each refusal may come, and `complete` by
-///   `CompletesMoving` that it comes then.
+/// - `slots` gives each instruction a slot that holds exactly its block; every other byte of the range is CC: `answer` by `SlotsAs`, over
+///   `AreSlotted` and `HoldsSlots`. An instruction is refused only if no gap is left or it cannot reach its target: `complete` by `CompletesSlots`.
+/// - Moved blocks decode to the images of the old instructions in the least layout, and each image goes to the old target or to its moved copy:
+///   `answer` by `MovesAs`, over `IsMoved`, `IsMovedReadBack` and `GoesToGoal`. Moving is refused only at the first operand that cannot reach, or for
+///   a stated limit: `answer` states when each refusal may occur, and `complete` by `CompletesMoving` that it occurs then.
 ///
-/// `words` are those behind the program's name. `list BITS BASE SYNTAX` reads `source` to its end and writes the listing to `out`, where `BITS` is
-/// `16`, `32` or `64`, `BASE` the address of the first byte in 1 to 16 hexadecimal digits, below 2 to the power of `BITS`, and `SYNTAX` is `intel`,
-/// `att` or `masm`. `info BITS BASE` reads it too, writes what each instruction does, and ends with `BadCode` at the first offset at which none is
-/// read. `recode BITS1 OLD BITS2 NEW` ends there too, and writes the bytes of each instruction in mode `BITS2`, where the first byte has the address
-/// `NEW`.
+/// `words` are the words after the program's name. `list BITS BASE SYNTAX` reads `source` to its end and writes the listing to `out`. `BITS` is `16`,
+/// `32` or `64`; `BASE` is the address of the first byte in 1 to 16 hexadecimal digits, below 2 to the power of `BITS`; `SYNTAX` is `intel`, `att` or
+/// `masm`. `info BITS BASE` reads it too, writes what each instruction does, and ends with `BadCode` at the first offset that starts no instruction.
+/// `recode BITS1 OLD BITS2 NEW` ends there too, and writes the bytes of each instruction in mode `BITS2`, with the first byte at the address `NEW`.
 ///
-/// `flow BITS BASE` follows control from the first byte of the source and writes, for each offset that is reached, its address, the address of the leader
-/// of its basic block, and the flow of the instruction there, or `invalid` or `too short`. It writes nothing but for `Done` and `WriteFault`.
+/// `flow BITS BASE` follows control from the first byte of the source. For each reached offset it writes its address, the address of the leader of
+/// its basic block, and the flow of the instruction there, or `invalid` or `too short`.
 ///
-/// `asm BITS BASE` reads lines, each ended by a line feed, and writes their bytes. A line is the Intel text of an instruction, as `list` writes it, where the
-/// bytes of the lines before it end, or `db` and a single byte, as `db 0x66`. It writes nothing but for `Done` and `WriteFault`, and answers `BadText` at the
-/// first line that is neither.
+/// `asm BITS BASE` reads lines, each ended by a line feed, and writes their bytes. A line is the Intel text of an instruction, as `list` writes it at
+/// the address of the line, or `db` and a single byte, such as `db 0x66`. The first line that is neither ends it with `BadText`.
 ///
-/// `move BITS OLD NEW` moves the whole source from the address `OLD` to the address `NEW` and writes its bytes there; `map BITS OLD NEW` writes the old
-/// and the new address and the form of each instruction instead; `blocks BITS OLD1 NEW1 LEN1 OLD2 NEW2 ..` moves 1 to 16 blocks, where every block but
-/// the last takes `LEN` bytes of the source, in 1 to 16 hexadecimal digits. They write nothing but for `Done` and `WriteFault`, and answer `BadCode` at
-/// the first offset of the source at which no instruction is read, `TooMany` above 65,536 instructions, `Wraps` where an old or new block passes the
-/// address space, and `TooFar` at the first instruction that does not reach its target.
+/// `move BITS OLD NEW` moves the whole source from the address `OLD` to the address `NEW` and writes the new bytes. `map BITS OLD NEW` writes the old
+/// address, the new address and the form of each instruction instead. `blocks BITS OLD1 NEW1 LEN1 OLD2 NEW2 ..` moves 1 to 16 blocks; each block but
+/// the last takes `LEN` bytes of the source, in 1 to 16 hexadecimal digits. They end with `BadCode` at the first offset of the source that starts no
+/// instruction, `TooMany` above 65,536 instructions, `Wraps` if an old or new block extends past the address space, and `TooFar` at the first
+/// instruction that cannot reach its target.
 ///
-/// `slots BITS OLD REGION SIZE` gives each instruction of the source, whose first byte has the address `OLD`, a slot in the range of `SIZE` bytes from the
-/// address `REGION` on, in order, and writes the bytes of the range; `SIZE` is a multiple of 16 up to 1,048,576, in hexadecimal digits. It writes nothing but
-/// for `Done` and `WriteFault`, and answers `BadCode` at the first offset at which no instruction is read; at the first instruction that gets no slot
-/// `RegionFull` where no gap has its length, else `TooFar`.
+/// `slots BITS OLD REGION SIZE` gives each instruction of the source, whose first byte has the address `OLD`, a slot in the range of `SIZE` bytes at
+/// the address `REGION`, in order, and writes the bytes of the range. `SIZE` is a multiple of 16 up to 1,048,576, in hexadecimal digits. It ends with
+/// `BadCode` at the first offset that starts no instruction. At the first instruction that gets no slot it ends with `RegionFull` if no gap is long
+/// enough, else with `TooFar`.
 ///
-/// `sample N` makes 1 to 65,536 instructions, `N` in hexadecimal, lists them at 400000 and moves them to 10400000 in 64-bit mode, and writes six numbers of what
-/// came of it: `answer` says by `SamplesAs` that they are so by definition, and that nothing but lack of memory hinders it. It reads nothing.
+/// `flow`, `asm`, `move`, `map`, `blocks` and `slots` write nothing unless the status is `Done` or `WriteFault`.
 ///
-/// `rows` writes a line for each row of the table of instructions, and `--help` and `--version` write a text; they read nothing and take no memory.
-/// Each status other than `Done` has a line that is written to `err`.
+/// `sample N` makes 1 to 65,536 instructions, `N` in hexadecimal, lists them at 400000, moves them to 10400000 in 64-bit mode, and writes six numbers
+/// about the result. `answer` states by `SamplesAs` that the numbers follow from their definition, and that only lack of memory prevents it. It reads
+/// nothing.
+///
+/// `rows` writes a line for each row of the table; `--help` and `--version` write a text. They read nothing and allocate nothing. Each status other
+/// than `Done` has a line, which goes to `err`.
 pub fn run<S: Source, K: Sink, E: Sink>(
     alloc: Global,
     words: &[&str],

@@ -13,8 +13,8 @@ ghost use Rattle.plain_spelling.specs.Expressible.{Suits};
 ghost use Rattle.plain_spelling.specs.Writable.{Writable};
 ghost use Rattle.prefixes.specs.Written.{front_written};
 
-/// The plain front of an instruction and the tail that is written behind it, whatever follows them, are read by the row as the
-/// instruction, where the conditions on the instruction hold.
+/// The plain front of an instruction and its written tail, whatever follows them, are read by the row as that instruction if the conditions on the
+/// instruction hold.
 pub fn written_tail_is_read_back()
     ensures { (bits : Bits) (ip : ℕ) (row : Row) (i : Instr) (rest : List ℕ)
         → Sound row → Writable bits row → Suits bits ip row i → length i.ops ≡ 4

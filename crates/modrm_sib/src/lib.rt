@@ -40,10 +40,9 @@ pub enum TailError {
     Forbidden,
 }
 
-/// The instruction of a row whose front these bytes have, with its length in bytes, in a mode that is given as a value.
+/// Reads an instruction of a row whose front these bytes have, in a mode that is known at run time. Returns it with its length in bytes.
 ///
-/// `state` is the front of `bytes`, and `ip` the address of their first byte.
-/// The length may be above 15: the bound on an instruction is the caller's.
+/// `state` is the front of `bytes`; `ip` is the address of the first byte. The length can exceed 15: the caller checks the limit of an instruction.
 #[inline]
 pub fn read_row(
     bits: Bits,
@@ -69,13 +68,13 @@ pub fn read_row(
     }
 }
 
-/// What stands for an instruction before it is read.
+/// The value of an instruction that has not been read.
 pub const UNREAD: Decoded = Decoded {
     instr: operands::UNREAD,
     len: 0,
 };
 
-/// Reads the tail of a row as [`read_row`] does, and writes the instruction to `out`. After an error `out` holds no instruction.
+/// Reads the tail of a row like [`read_row`], and writes the instruction to `out`. After an error `out` holds no instruction.
 #[inline(always)]
 pub fn read_row_into(
     bits: Bits,
@@ -99,11 +98,11 @@ pub fn read_row_into(
     read::read_tail(bits, ip, state, code, row, tail, out)
 }
 
-/// Reads the tail of a row as [`read_row_into`] does, where the row is known to take the state with the ModRM that stands there, and at most one
-/// of its operands has bytes of the immediates. Returns None if the bytes do not begin with an
-/// instruction of the row of at most 15 bytes; then the contents of `out` are unspecified.
+/// Reads the tail of a row like [`read_row_into`]. The row must fit the state and the ModRM byte, and at most one of its operands may have bytes of
+/// the immediates. Returns None if the bytes do not begin with an instruction of the row of at most 15 bytes; then the contents of `out` are
+/// unspecified.
 ///
-/// `size` is the operand size of the row under the prefixes, and `immediates` the bytes of its immediates.
+/// `size` is the operand size of the row under the prefixes; `immediates` is the number of bytes of its immediates.
 #[inline(always)]
 pub fn read_fitting_into(
     bits: Bits,
@@ -130,13 +129,13 @@ pub fn read_fitting_into(
     read_known_tail(bits, ip, state, code, row, size, immediates, tail, out)
 }
 
-/// The instruction of a row whose front these bytes have, with its length in bytes.
+/// Reads an instruction of a row whose front these bytes have. Returns it with its length in bytes.
 ///
-/// `BITS` is 16, 32 or 64. `state` is the front of `bytes`, for which an `Ok` of `read_prefixes` is the test, and `ip`
-/// the address of their first byte. The length may be above 15: the bound on an instruction is the caller's.
+/// `BITS` is 16, 32 or 64. `state` is the front of `bytes`, as `read_prefixes` returns it; `ip` is the address of the first byte. The length can
+/// exceed 15: the caller checks the limit of an instruction.
 ///
-/// `Ended` comes exactly where the bytes end inside the tail and some tail that begins so fits the row, and `Forbidden`
-/// exactly where no tail that begins so does (Intel SDM volume 2, 2.1.3 to 2.1.5, 2.2.1 and 2.3.5 to 2.3.12).
+/// Errors: `Ended` occurs exactly if the bytes end inside the tail and some longer tail fits the row. `Forbidden` occurs exactly if no tail that
+/// begins like this fits (Intel SDM volume 2, 2.1.3 to 2.1.5, 2.2.1 and 2.3.5 to 2.3.12).
 pub fn read_operands<const BITS: u32>(
     ip: u64,
     state: &PrefixState,

@@ -13,7 +13,7 @@ use row_fit::fits::{
 use row_fit::tail_fits::{displacement_bytes, lock_fits, needs_sib, registers_fit};
 use x86_values::Bits;
 
-/// The fields of a ModRM byte: mod in bits 6 and 7, reg in bits 3 to 5, rm in bits 0 to 2.
+/// Returns the fields of a ModRM byte: mod in bits 6 and 7, reg in bits 3 to 5, rm in bits 0 to 2 (Intel SDM volume 2, 2.1.3).
 #[inline]
 #[tactic(auto, unfolding(crate::specs::Parts::modrm_of_byte, row_fit::specs::Fits::modrm_in_range))]
 pub fn modrm_of_byte(b: u8) -> ModRm
@@ -27,7 +27,7 @@ pub fn modrm_of_byte(b: u8) -> ModRm
     }
 }
 
-/// The fields of a SIB byte: scale in bits 6 and 7, index in bits 3 to 5, base in bits 0 to 2.
+/// Returns the fields of a SIB byte: scale in bits 6 and 7, index in bits 3 to 5, base in bits 0 to 2 (Intel SDM volume 2, 2.1.3).
 #[inline]
 #[tactic(auto, unfolding(crate::specs::Parts::sib_of_byte, row_fit::specs::Fits::sib_in_range))]
 pub fn sib_of_byte(b: u8) -> Sib

@@ -14,8 +14,8 @@ use plain_spelling::parts::{PlainParts, plain_parts};
 use plain_spelling::tail::plain_tail;
 use x86_values::{Bits, Instr};
 
-/// The plain spelling of an instruction of a row from the opcode byte on, as `write_operands` gives it, by the parts of the plain spelling, which
-/// say the address.
+/// Writes the plain spelling of an instruction of a row from the opcode byte on, like `write_operands`, from the parts of the plain spelling, which
+/// include the address.
 pub fn write_tail(
     bits: Bits,
     row: &Row,
@@ -33,11 +33,11 @@ pub fn write_tail(
     }
 }
 
-/// The plain spelling of an instruction of a row at an address from the opcode byte on: with the empty list of prefixes and without a VEX
-/// (Intel SDM volume 2, 2.1.3 to 2.1.5, 2.2.1 and 2.3.5 to 2.3.12).
+/// Returns the plain spelling of an instruction of a row at an address from the opcode byte on, with no prefixes and no VEX (Intel SDM volume 2,
+/// 2.1.3 to 2.1.5, 2.2.1 and 2.3.5 to 2.3.12).
 ///
-/// The error is the first that fails of the conditions on operands, registers, addresses, displacements, immediates, targets, prefixes and the
-/// address size. A target is counted from the end of the whole plain spelling, with its prefixes and VEX.
+/// The error is the first condition that fails, in this order: operands, registers, addresses, displacements, immediates, targets, prefixes, address
+/// size. A target counts from the end of the whole plain spelling, including its prefixes and VEX.
 pub fn write_operands(bits: Bits, ip: u64, row: &Row, instr: &Instr) -> Result<Spelling, NoSpelling>
     requires { IsTrue (sound row.now) }
     ensures ok { IfOk result (λ s. (failing bits ip row.now instr.now ≡ None) × (s ≡ tail_of bits ip row.now instr.now)) }

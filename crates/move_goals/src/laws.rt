@@ -2,13 +2,13 @@
 
 ghost use Rattle.move_goals.specs.Facts.{FirstFacts, PlanFacts};
 
-/// What is known of the first number below a bound that passes a test.
+/// The properties of the first number below a bound that passes a test.
 #[inline]
 pub fn first_numbers_pass()
     ensures { FirstFacts }
 {}
 
-/// The plan of items that were well placed is well formed.
+/// The plan of well-placed items is well formed.
 #[inline]
 pub fn plans_are_well_formed()
     ensures { PlanFacts }

@@ -36,10 +36,10 @@ fn is_at_ip(operand: &Operand) -> bool
     }
 }
 
-/// The address that an instruction is aimed at: the target of a near branch, else the address of an operand at RIP or EIP. None where it
-/// has neither; far pointers and absolute addresses are no targets.
+/// Returns the target of an instruction: the target of a near branch, or else the address of a RIP or EIP operand. Returns None if it has neither.
+/// Far pointers and absolute addresses are no targets.
 ///
-/// Most instructions hold neither, so that is asked first.
+/// Most instructions have neither, so the function tests that first.
 #[tactic(auto, unfolding(crate::specs::MovedTargets::Targets::target_of))]
 pub fn target_of(instr: &Instr) -> Option<u64>
     ensures { result ≡ spec.target_of instr.now }
@@ -70,7 +70,7 @@ fn aimed_operand(operand: Operand, target: u64) -> Operand
     }
 }
 
-/// The instruction aimed at another address: each near target and each address at RIP or EIP is replaced, and all else stays.
+/// Returns the instruction with another target: each near target and each address at RIP or EIP is replaced, and everything else stays.
 #[tactic(auto, unfolding(crate::specs::MovedTargets::Targets::with_target))]
 pub fn with_target(instr: &Instr, target: u64) -> Instr
     ensures { result ≡ spec.with_target target instr.now }
@@ -103,8 +103,8 @@ fn operand_reach(operand: Operand) -> Option<Reach>
     }
 }
 
-/// Which targets an instruction reaches by an operand at RIP or EIP: at RIP those at a distance of a signed number of 32 bits from its end,
-/// at EIP those below 2 to the power of 32. Without such an operand there is nothing to reach.
+/// Returns which targets a RIP or EIP operand of an instruction reaches. A RIP operand reaches those at a signed 32-bit distance from the end of the
+/// instruction, an EIP operand those below 2^32. Without such an operand there is nothing to reach.
 #[tactic(auto, unfolding(crate::specs::MovedTargets::Targets::target_reach))]
 pub fn target_reach(instr: &Instr) -> Reach
     ensures { result ≡ spec.target_reach instr.now }
@@ -115,7 +115,8 @@ pub fn target_reach(instr: &Instr) -> Reach
         .unwrap_or(Reach::Always)
 }
 
-/// How many bytes the plain spelling of an instruction has, wherever it stands and is aimed; 0 where its code is not one of the table.
+/// Returns the length in bytes of the plain spelling of an instruction, which is the same at every address and for every target; 0 if its code is not
+/// in the table.
 #[tactic(auto, unfolding(crate::specs::MovedTargets::Targets::plain_length))]
 pub fn plain_length(bits: Bits, instr: &Instr) -> u8
     ensures value { result ≡ spec.plain_length bits instr.now }

@@ -23,7 +23,7 @@ fn follows(items: &[Placed], k: usize) -> bool
     u128::from(items[k].ip) == old_end(&items[k - 1])
 }
 
-/// The number of the first item that is not the first of its block and does not begin where the one before it ends.
+/// Returns the number of the first item that is not the first of its block and does not begin where the previous item ends.
 pub fn first_disorder(items: &[Placed], spans: &[BlockSpan]) -> Option<usize>
     requires { spec.AreSpansOf items.now spans.now }
     ensures { result ≡ spec.first_disorder spans.now items.now }
@@ -42,7 +42,7 @@ pub fn first_disorder(items: &[Placed], spans: &[BlockSpan]) -> Option<usize>
     None
 }
 
-/// Whether an address lies behind the address space of a mode: one byte more than that space is still its end.
+/// Returns whether an address exceeds the address space of a mode. The address just past the space is still a valid end.
 pub fn passes(bits: Bits, end: u128) -> bool
     ensures { result ≡ spec.passes bits end }
 {
@@ -65,7 +65,7 @@ fn block_old_end(items: &[Placed], span: &BlockSpan, start: usize) -> u128
     old_end(&items[start + span.count as usize - 1])
 }
 
-/// The first address behind the old items of a block that passes the address space of the mode. The old end of an empty block is its new base.
+/// Returns the first old end of a block that exceeds the address space of the mode. The old end of an empty block is its new base.
 pub fn first_old_pass(bits: Bits, items: &[Placed], spans: &[BlockSpan]) -> Option<u128>
     requires { spec.AreSpansOf items.now spans.now }
     ensures { result ≡ spec.first_old_pass bits spans.now items.now }

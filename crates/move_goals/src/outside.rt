@@ -33,8 +33,8 @@ fn kept_branch(bits: Bits, items: &[Placed], k: usize) -> Branch
     }
 }
 
-/// The plan of one block at an address from which every target stays: of each item the forms that it may take, and its own target as its goal. At most
-/// 65,536 items.
+/// Returns the plan of one block at an address in which every target stays: for each item its possible forms, and its own target as the goal. It
+/// takes at most 65,536 items.
 pub fn plan_outside(
     alloc: Global,
     bits: Bits,

@@ -91,9 +91,10 @@ fn branches_of(
     Ok(branches)
 }
 
-/// The plan of some moved blocks: of each item the forms that it may take and its goal. At most 65,536 items.
+/// Returns the plan of some moved blocks: for each item its possible forms and its goal. It takes at most 65,536 items.
 ///
-/// A target goes with the item of the same block that began there, else with the first item of another block that did, else it stays.
+/// A target that starts an item of the same block follows that item. Otherwise it follows the first item of another block that starts there.
+/// Otherwise it stays.
 pub fn plan_for(
     alloc: Global,
     bits: Bits,
@@ -109,8 +110,8 @@ pub fn plan_for(
     plan_with_ready(alloc, bits, items, spans, &[])
 }
 
-/// The plan of some moved blocks, as [`plan_for`] makes it. Where bytes of an item are ready, which do not depend on its place, it has no target, and as
-/// many bytes.
+/// Returns the plan of some moved blocks, like [`plan_for`]. An item with ready bytes, which do not depend on its place, has no target, and its
+/// length is the number of these bytes.
 pub fn plan_with_ready(
     alloc: Global,
     bits: Bits,

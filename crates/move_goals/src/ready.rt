@@ -9,7 +9,7 @@ use arrayvec::ArrayVec;
 use std::alloc::{AllocError, Global};
 use x86_values::Bits;
 
-/// Of each item without a target the bytes of its plain spelling, which are the same wherever it stands; of every other item none.
+/// Returns the plain spelling's bytes for each item without a target, which are the same at every place, and no bytes for each other item.
 pub fn ready_bytes(
     alloc: Global,
     bits: Bits,
@@ -24,7 +24,7 @@ pub fn ready_bytes(
     Ok(ready)
 }
 
-/// The bytes that are ready of item `k`, none where there are none.
+/// Returns the ready bytes of item `k`; none if it has none.
 #[inline]
 pub fn ready_of(ready: &[ArrayVec<u8, 15>], k: usize) -> &[u8]
     ensures { result.now ≡ spec.ready_at ready.now k }

@@ -26,7 +26,7 @@ pub struct Code {
     pub count: u64,
 }
 
-/// Why the blocks are not read.
+/// Why the blocks cannot be decoded.
 #[derive(Clone, Copy, PartialEq, Eq, Debug, Error)]
 pub enum CodeError {
     /// No instruction is read at this offset of the input.
@@ -69,7 +69,7 @@ fn end_of(word: &BlockWords, len: usize) -> u128
     }
 }
 
-/// The first old end of the blocks that passes the address space of the mode.
+/// Returns the first old end of the blocks that exceeds the address space of the mode.
 pub fn first_pass(bits: Bits, words: &[BlockWords], input: &[u8]) -> Option<u128>
     ensures { result ≡ end_spec.first_pass bits words.now input.now }
 {
@@ -146,7 +146,7 @@ fn add_span(spans: &mut Vec<BlockSpan>, count: u32, new_base: u64) -> Result<(),
     Ok(())
 }
 
-/// Cuts the input into blocks and reads the instructions of each.
+/// Cuts the input into blocks and decodes the instructions of each.
 pub fn read_code(
     alloc: Global,
     bits: Bits,

@@ -6,7 +6,7 @@ use block_encoder::laws::moved_blocks_keep_their_laws;
 use branch_sizes::laws::least_is_unique;
 use sweep::sweep_text::laws::sweeps_agree;
 
-/// Some input is read as one list of instructions, and has one first single byte, or none.
+/// Some input decodes to exactly one list of instructions, and has one first bad byte or none.
 #[inline]
 pub fn inputs_are_read_in_one_way()
     ensures { InputFacts }
@@ -14,13 +14,13 @@ pub fn inputs_are_read_in_one_way()
     sweeps_agree();
 }
 
-/// The instructions of some input are well placed, one for each item of its sweep.
+/// The instructions of some input are well placed, and correspond to the items of its sweep.
 #[inline]
 pub fn instructions_are_placed()
     ensures { PlacedFacts }
 {}
 
-/// Some input has one answer: the same refusal, or moved blocks.
+/// Some input has exactly one answer: the same refusal, or moved blocks.
 #[inline]
 pub fn inputs_have_one_answer()
     ensures { MovingAnswerFacts }
@@ -29,7 +29,7 @@ pub fn inputs_have_one_answer()
     least_is_unique();
 }
 
-/// Moved blocks are read as they were written: each image stands at its place and goes to the goal of its instruction.
+/// Moved blocks decode as they were encoded: each image lies at its place and goes to the goal of its instruction.
 #[inline]
 pub fn moved_blocks_are_read_back()
     ensures { ReadBackFacts }

@@ -62,7 +62,7 @@ fn write_map_line<K: Sink>(
     Ok(())
 }
 
-/// Writes the lines of moved instructions: their old and their new addresses and their forms.
+/// Writes the lines of moved instructions: old address, new address and form.
 pub fn write_map<K: Sink>(
     bits: Bits,
     items: &[Placed],

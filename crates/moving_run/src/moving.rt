@@ -29,14 +29,14 @@ pub enum Wanted {
     MapLines,
 }
 
-/// The instructions of some code, and the blocks that they were moved to.
+/// The instructions of some code, and the blocks to which they were moved.
 #[derive(Drop)]
 pub struct MovedCode {
     pub items: Vec<Placed>,
     pub blocks: MovedBlocks,
 }
 
-/// Cuts the input into blocks of code of a mode and moves them, or tells by a status why not: in this order `BadCode`, `TooMany`, `Wraps` and `TooFar`, as
+/// Cuts the input into blocks of code of a mode and moves them, or returns a status: `BadCode`, `TooMany`, `Wraps` or `TooFar` in this order, as
 /// [`move_code`] does, and `Memory` at any point.
 pub fn move_input(
     alloc: Global,
@@ -97,11 +97,12 @@ fn write_wanted<K: Sink>(
     }
 }
 
-/// Reads the source to its end, cuts it into blocks of code of a mode, moves them, and writes what is wanted.
+/// Reads the source to its end, cuts it into blocks of code of a mode, moves them, and writes the wanted output.
 ///
-/// Each block has an old and a new base, addresses of the mode; all but the last have a length. In this order: `ReadFault`, `TooLarge` above 1,048,576
-/// bytes, `BadCode` at the first single byte of a block's sweep, `TooMany` above 65,536 instructions, `Wraps`, `TooFar`, `WriteFault`; `Memory` at any
-/// point. Nothing is written before all but `WriteFault` are past. At most 1,048,577 bytes are taken, and after `ReadFault` the source is not asked again.
+/// Each block has an old and a new base, which are addresses of the mode. Each block but the last has a length. Statuses, in this order: `ReadFault`;
+/// `TooLarge` above 1,048,576 bytes; `BadCode` at the first byte of a block's sweep that starts no instruction; `TooMany` above 65,536 instructions;
+/// `Wraps`; `TooFar`; `WriteFault`. `Memory` can occur at any point. Nothing is written unless only `WriteFault` can still occur. At most 1,048,577
+/// bytes are read, and nothing after `ReadFault`.
 #[tactic(auto, unfolding(sweep::specs::RunParts::Reads::whole_limit))]
 pub fn move_code<S: Source, K: Sink>(
     alloc: Global,

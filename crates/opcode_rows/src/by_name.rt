@@ -7,9 +7,15 @@ ghost use Rattle.opcode_rows.specs.ByName.{rows_named, rows_named_before};
 use crate::ROWS;
 use x86_values::Code;
 
-/// The code of the `n`-th row of a name, from 0, in the order of the codes; None exactly where the name has no more than `n` rows.
+/// Returns the code of the `n`-th row with a name, from 0, in the order of codes; None exactly if the name has at most `n` rows.
 ///
-/// The name is a mnemonic in lower case, as `name` gives it.
+/// The name is a mnemonic in lower case, as [`name`](crate::name) returns it.
+///
+/// ```
+/// if let Some(code) = code_of("imul", 0) {
+///     println!(rt; "{} {}", name(code), ascii_str(&notation_of(code)))?; // imul o16 69 /r iw
+/// }
+/// ```
 pub fn code_of(name: &str, n: usize) -> Option<Code>
     ensures row { IfSome result (λ code. code.0 < ROWS) }
     ensures named { IfSome result (λ code. name_of code.0 ≡ name.now) }

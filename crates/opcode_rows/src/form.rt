@@ -10,8 +10,11 @@ use plain_spelling::forms::{is_scale, is_variant_of, operand_at};
 use row_fit::tail_fits::kind_at;
 use x86_values::{Instr, Operand, Register};
 
-/// Whether the code is below `ROWS`, each operand's variant is one that the row's kind allows, each scale is 1, 2, 4 or 8, and each register's
-/// number is below the size of its class: 4 for the high byte registers, 8 for the stack, MMX and debug registers, 16 for all others.
+/// Returns whether an instruction is well-formed: its code is below `ROWS`, each operand's variant is one that the row's kind allows, each scale is
+/// 1, 2, 4 or 8, and each register's number is below the size of its class: 4 for the high byte registers, 8 for x87, MMX and debug registers, 16 for
+/// all others.
+///
+/// Every decoded instruction is well-formed.
 #[tactic(auto, unfolding(crate::specs::Allowed::is_well_formed))]
 pub fn well_formed(instr: &Instr) -> bool
     ensures { result ≡ spec.is_well_formed instr.now }

@@ -22,25 +22,25 @@ ghost use Rattle.opcode_rows.specs.Versions.{version1, version1_names, is_added_
 ghost use Rattle.opcode_rows.specs.declared.spot.Part.{Part};
 ghost use Rattle.opcode_rows.specs.declared.generated_spots.TheConstants.{ROWS, VERSION1_ROWS};
 
-/// There are as many rows as `ROWS` says.
+/// The table has `ROWS` rows.
 pub fn rows_are_counted()
     ensures { length table ≡ ROWS }
 {}
 
-/// Each row of each of the four parts stands in the table, at exactly one code.
+/// Each row of each of the four parts occurs in the table at exactly one code.
 pub fn each_row_has_one_code()
     ensures { (part : Part) (at : ℕ) (row : Row) → slice_get (part_table part) at ≡ Some row → HasOneCode part at row }
 {}
 
-/// The table has no rows but those of the four parts: what holds of each row of each part holds of each row of the table.
+/// The table has no other rows than those of the four parts: a property of every row of each part is a property of every row of the table.
 #[inline]
 pub fn rows_are_of_the_parts()
     ensures { (test : Row → Bool) → ((part : Part) → IsTrue (list_all test (part_table part)))
         → (code : ℕ) (row : Row) → slice_get table code ≡ Some row → IsTrue (test row) }
 {}
 
-/// The codes of one version ascend by kind, map and opcode byte. Those of the rows of one part ascend in the order of its list, at one opcode
-/// byte as everywhere.
+/// The codes of one version ascend by kind, map and opcode byte. The codes of one part's rows ascend in the order of its list, also within an opcode
+/// byte.
 pub fn codes_ascend()
     ensures by_opcode { (j k : ℕ) (q r : Row) → j < k → AreOfOneVersion j k → slice_get table j ≡ Some q → slice_get table k ≡ Some r
         → opcode_number q ≤ opcode_number r }
@@ -57,7 +57,7 @@ pub fn rows_are_writable()
     ensures { (code : ℕ) (row : Row) → slice_get table code ≡ Some row → IsTrue (writable row) }
 {}
 
-/// In each mode and on all values of the nine fields, two rows whose conditions hold are one row.
+/// In each mode and for all values of the nine fields, at most one row's conditions hold.
 pub fn rows_are_apart()
     ensures { (bits : Bits) (f : Fields) → f.opcode < 256 → RowsAreApart bits table f }
 {}
@@ -67,8 +67,8 @@ pub fn cells_are_runs()
     ensures { (kind : RowKind) (m : Map) (op : ℕ) → op < 256 → (first : ℕ) × IsRunOf table kind m op first (length (cell kind m op)) }
 {}
 
-/// In each mode in which a legacy row exists, its opcode bytes are taken as opcode bytes: none is a prefix, an escape byte or, in 64-bit mode,
-/// the byte 62.
+/// In each mode in which a legacy row exists, its opcode bytes are read as opcode bytes: none is a prefix, an escape byte or, in 64-bit mode, the
+/// byte 62.
 pub fn opcodes_are_kept_in_each_mode()
     ensures { (bits : Bits) (code : ℕ) (row : Row) → slice_get table code ≡ Some row → IsTrue (opcodes_are_kept bits row) }
 {}
@@ -83,28 +83,27 @@ pub fn names_are_words()
     ensures { (code : ℕ) → code < ROWS → IsTrue (is_name (name_of code)) }
 {}
 
-/// The code of a well-formed instruction is one of the table.
+/// The code of a well-formed instruction is below `ROWS`.
 #[inline]
 pub fn well_formed_codes_are_in_the_table()
     ensures { (i : Instr) → IsTrue (is_well_formed i) → i.code.0 < ROWS }
 {}
 
-/// The first `VERSION1_ROWS` rows and their names are those that version 1 had, as `version1_rows` keeps them.
+/// The first `VERSION1_ROWS` rows and their names are those of version 1, as `version1_rows` keeps them.
 pub fn version1_is_kept()
     ensures rows { version1 ≡ first_rows }
     ensures names { version1_names ≡ first_names }
 {}
 
-/// A row that stands in a cell is one of version 2 exactly where the cell is one of those that version 2 fills: every row from `VERSION1_ROWS` on
-/// stands in such cells alone, and no row below it in any.
+/// The cells that version 2 fills contain exactly the rows from `VERSION1_ROWS` on.
 pub fn versions_have_their_cells()
     ensures { (code : ℕ) (row : Row) (kind : RowKind) (m : Map) (op : ℕ)
         → slice_get table code ≡ Some row → IsTrue (stands_in_cell kind m op row)
         → IsTrue (is_added_cell kind m op) ↔ (VERSION1_ROWS ≤ code) }
 {}
 
-/// What version 1 read is read as it was. A reading differs from that of version 1 only where the front of the bytes, up to the opcode byte,
-/// names a cell that version 2 fills, and there version 1 read no instruction and could not have gone on.
+/// Bytes that version 1 reads still read the same. A reading differs from that of version 1 only if the front of the bytes, up to the opcode byte,
+/// names a cell that version 2 fills; there version 1 reads no instruction, whatever follows.
 pub fn readings_are_kept()
     ensures read { (bits : Bits) (ip : ℕ) (bytes : List ℕ) (instr : Instr) (len : ℕ)
         → ReadsAs version1 bits ip bytes instr len → ReadsAs table bits ip bytes instr len }

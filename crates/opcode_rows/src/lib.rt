@@ -31,7 +31,7 @@ use std::sync::ledger::Ledger;
 use step_count::Steps;
 use x86_values::Code;
 
-/// The row of a code below `ROWS`. It takes one step.
+/// Returns the row of a code below `ROWS`. It counts as one step.
 #[inline]
 pub fn row<L: Ledger>(code: Code, steps: &mut Steps<L>) -> Row
     requires { code.0 < ROWS }
@@ -42,7 +42,7 @@ pub fn row<L: Ledger>(code: Code, steps: &mut Steps<L>) -> Row
     row_at(code)
 }
 
-/// The row of a code below `ROWS`, where no look-up is counted.
+/// Returns the row of a code below `ROWS`, without counting a step.
 #[inline]
 pub fn row_of(code: Code) -> Row
     requires { code.0 < ROWS }
@@ -51,7 +51,9 @@ pub fn row_of(code: Code) -> Row
     common_row(spot_at(code.0))
 }
 
-/// The name of the row of a code below `ROWS`, in lower case: 1 to 16 letters and digits.
+/// Returns the mnemonic of a code below `ROWS`, in lower case: 1 to 16 letters and digits.
+///
+/// It is the manual's name without a condition alias: `je`, not `jz`.
 pub fn name(code: Code) -> &'static str
     requires { code.0 < ROWS }
     ensures name { result.now ≡ name_of code.0 }
@@ -64,8 +66,8 @@ pub fn name(code: Code) -> &'static str
     }
 }
 
-/// The code of the first row that stands at an opcode byte of a kind and map; None exactly where no row does. The rows of the cell have the
-/// codes from it on, one after the other, as many as `cell_len` says. A row that adds a register to its opcode byte stands at eight.
+/// Returns the code of the first row at an opcode byte of a kind and map; None exactly if there is no row. The rows of the cell have consecutive
+/// codes from it on, as many as [`cell_len`] returns. A row that adds a register to its opcode byte belongs to eight cells.
 pub fn first_of(kind: RowKind, map: Map, opcode: u8) -> Option<Code>
     ensures run { IfSome result (λ first. IsRunOf table kind map opcode first.0 (length (cell kind map opcode))) }
     ensures within { IfSome result (λ first. first.0 + length (cell kind map opcode) ≤ ROWS) }
@@ -79,7 +81,7 @@ pub fn first_of(kind: RowKind, map: Map, opcode: u8) -> Option<Code>
     }
 }
 
-/// How many rows stand at an opcode byte of a kind and map.
+/// Returns the number of rows at an opcode byte of a kind and map.
 pub fn cell_len(kind: RowKind, map: Map, opcode: u8) -> u16
     ensures { result ≡ length (cell kind map opcode) }
 {

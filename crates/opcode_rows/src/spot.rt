@@ -1,6 +1,6 @@
 //! Where a row of the table lies among the rows of its crate.
 
-/// The crate that has a row.
+/// The crate that contains a row.
 #[derive(Clone, Copy)]
 pub enum Part {
     Integer,

@@ -8,7 +8,7 @@ use crate::generated_columns::COLUMNS;
 use opcode_rows::ROWS;
 use x86_values::Code;
 
-/// Where control goes behind an instruction.
+/// Where control goes after an instruction.
 #[derive(Clone, Copy, PartialEq, Eq, Debug)]
 pub enum Flow {
     /// To the next instruction.
@@ -32,7 +32,7 @@ pub enum Flow {
     Exception,
 }
 
-/// What an instruction does to the whole of an operand. A write of a part of it, or under a condition, is a read and a write.
+/// What an instruction does to the whole of an operand. A partial or conditional write counts as a read and a write.
 #[derive(Clone, Copy, PartialEq, Eq, Debug)]
 pub enum Access {
     /// Nothing: it is a hint, or only its address is used, or there is no such operand.
@@ -42,7 +42,7 @@ pub enum Access {
     ReadWrite,
 }
 
-/// The columns of a row: its flow, the access of its four operands, and the size of its memory operand in bytes.
+/// The columns of a row: its flow, the access to its four operands, and the size of its memory operand in bytes.
 #[derive(Clone, Copy)]
 pub struct Columns {
     pub flow: Flow,
@@ -76,7 +76,7 @@ fn columns_at(code: Code) -> Columns
     line_at(code)
 }
 
-/// Where control goes behind an instruction of a code below `ROWS`.
+/// Returns where control goes after an instruction with a code below `ROWS`.
 #[inline]
 pub fn flow_of(code: Code) -> Flow
     requires { code.0 < ROWS }
@@ -85,7 +85,7 @@ pub fn flow_of(code: Code) -> Flow
     columns_at(code).flow
 }
 
-/// What an instruction of a code below `ROWS` does to operand `n`, 0 to 3: `None` where it has no such operand.
+/// Returns what an instruction with a code below `ROWS` does to operand `n`, 0 to 3; `None` if it has no such operand.
 #[inline]
 pub fn access_of(code: Code, n: usize) -> Access
     requires code { code.0 < ROWS }
@@ -101,7 +101,7 @@ pub fn access_of(code: Code, n: usize) -> Access
     }
 }
 
-/// The size of the memory operand of a code below `ROWS` in bytes, 0 to 32; 0 where there is none, or none of a size.
+/// Returns the size in bytes of the memory operand of a code below `ROWS`, 0 to 32. It is 0 if there is no memory operand or its size is unknown.
 #[inline]
 pub fn memory_size(code: Code) -> u8
     requires { code.0 < ROWS }

@@ -12,13 +12,13 @@ ghost use Rattle.operand_info.specs.Laws.{is_constant, goes_to_operand};
 
 pub use opcode_rows::laws::well_formed_codes_are_in_the_table;
 
-/// Constants of an instruction are read, and never written.
+/// Constant operands are read and never written.
 pub fn constants_are_read()
     ensures { (code n : ℕ) (row : Row) → slice_get table code ≡ Some row → n < 4
         → IsTrue (is_constant (method_of (kind_at row n))) → access_of code n ≡ Read }
 {}
 
-/// The branches and calls whose flow names a target in the instruction are those that hold one.
+/// The branches and calls whose flow names a direct target are exactly those that hold one.
 pub fn direct_flows_hold_their_target()
     ensures { (code : ℕ) (row : Row) → slice_get table code ≡ Some row
         → has_direct_target row ≡ goes_to_operand (flow_of code) row }

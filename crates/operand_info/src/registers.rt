@@ -10,7 +10,7 @@ use arrayvec::ArrayVec;
 use opcode_rows::ROWS;
 use x86_values::{Instr, Operand, Register};
 
-/// A register with what an instruction does to it.
+/// A register that an instruction names, and its access.
 #[derive(Clone, Copy, PartialEq, Eq, Debug)]
 pub struct RegUse {
     pub reg: Register,
@@ -83,8 +83,8 @@ fn push_uses_at(uses: &mut Uses, instr: &Instr, n: usize)
     push_uses(uses, instr.ops[n], access_of(instr.code, n));
 }
 
-/// The registers that a well-formed instruction names, operand by operand: a register operand with its access, none where the access is
-/// `None`, and of a memory operand the base and then the index, as read. RIP and EIP count as a base. At most 8.
+/// Returns the registers that a well-formed instruction names, operand by operand; at most 8. A register operand comes with its access, unless the
+/// access is `None`. A memory operand gives its base, then its index, as read. RIP and EIP count as bases.
 #[tactic(auto, unfolding(crate::specs::Operands::uses))]
 pub fn used_registers(instr: &Instr) -> ArrayVec<RegUse, 16>
     requires { IsTrue (is_well_formed instr.now) }

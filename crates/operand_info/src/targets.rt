@@ -32,7 +32,7 @@ fn ip_value(operand: &Operand) -> Option<u64>
     }
 }
 
-/// The absolute target of a near branch, the first `Near` operand; None exactly where there is none.
+/// Returns the absolute target of a near branch, the first `Near` operand; None exactly if there is none.
 #[inline]
 pub fn near_target(instr: &Instr) -> Option<u64>
     ensures { result ≡ spec.first_value spec.near_value instr.now }
@@ -41,7 +41,7 @@ pub fn near_target(instr: &Instr) -> Option<u64>
     near_value(first).or(near_value(second).or(near_value(third).or(near_value(fourth))))
 }
 
-/// The absolute address of the memory operand that RIP or EIP is the base of (2.2.1.6); None exactly where there is none.
+/// Returns the absolute address of the memory operand with base RIP or EIP (Intel SDM volume 2, 2.2.1.6); None exactly if there is none.
 #[inline]
 pub fn ip_operand(instr: &Instr) -> Option<u64>
     ensures { result ≡ spec.first_value spec.ip_value instr.now }

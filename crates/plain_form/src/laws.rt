@@ -13,13 +13,13 @@ ghost use Rattle.plain_spelling.specs.Expressible.{Suits};
 ghost use Rattle.plain_spelling.specs.Writable.{Writable};
 ghost use Rattle.plain_form.specs.IsPlain.{IsPlain};
 
-/// Where an instruction meets the conditions on everything but the length, the constructed spelling is plain.
+/// If an instruction meets the conditions on everything except the length, the constructed spelling is plain.
 pub fn constructed_spelling_is_plain()
     ensures { (bits : Bits) (ip : ℕ) (row : Row) (i : Instr)
         → Sound row → Writable bits row → length i.ops ≡ 4 → Suits bits ip row i → IsPlain bits ip row (plain_spelling bits ip row i) }
 {}
 
-/// A fitting plain spelling that means an instruction at an address is the constructed one. So there is at most one.
+/// A fitting plain spelling that means an instruction at an address is the constructed one, so there is at most one.
 pub fn plain_spelling_is_constructed()
     ensures { (bits : Bits) (ip : ℕ) (row : Row) (s : Spelling) (i : Instr)
         → Sound row → Writable bits row → IsTrue (fits bits row s) → IsPlain bits ip row s → meaning bits ip i.code row s ≡ i

@@ -16,7 +16,7 @@ use instruction_parts::sizes::size_bytes;
 use instruction_parts::spelling::Sib;
 use x86_values::{Bits, DispSize, Mem, Register, same_bits, same_register};
 
-/// The ways to write an address by ModRM.
+/// How ModRM encodes an address.
 #[derive(Clone, Copy)]
 pub enum AddressForm {
     /// Relative to RIP or EIP, of this size (2.2.1.6).
@@ -29,7 +29,7 @@ pub enum AddressForm {
     Wide,
 }
 
-/// What ModRM.mod, ModRM.rm and the SIB are.
+/// The values of ModRM.mod, ModRM.rm and the SIB.
 #[derive(Clone, Copy)]
 pub struct AddressFields {
     pub mode3: u8,
@@ -37,7 +37,7 @@ pub struct AddressFields {
     pub sib: Option<Sib>,
 }
 
-/// How many register numbers a mode has: 16 in 64-bit mode, else 8 (2.2.1.2).
+/// Returns the number of registers in a mode: 16 in 64-bit mode, else 8 (Intel SDM volume 2, 2.2.1.2).
 #[tactic(auto, unfolding(crate::specs::Addresses::register_count))]
 pub fn register_count(bits: Bits) -> u16
     ensures value { result ≡ spec.register_count bits }
@@ -49,7 +49,7 @@ pub fn register_count(bits: Bits) -> u16
     }
 }
 
-/// Whether an address size is one of the mode: its own, or the one that 67 gives (2.1.1, group 4).
+/// Returns whether an address size exists in the mode: the default one, or the one under 67 (Intel SDM volume 2, 2.1.1, group 4).
 #[tactic(auto, unfolding(crate::specs::Addresses::has_address_size))]
 pub fn has_address_size(bits: Bits, asize: Bits) -> bool
     ensures { result ≡ spec.has_address_size bits asize }
@@ -109,7 +109,7 @@ fn shown_size(memory: Mem) -> Option<Bits>
     }
 }
 
-/// The address size that an address shows by a general register, RIP or EIP.
+/// Returns the address size that an address shows by a general register, RIP or EIP.
 #[inline(always)]
 #[tactic(auto, unfolding(crate::specs::Expressible::told_size))]
 pub fn told_size(memory: Mem) -> Option<Bits>
@@ -124,7 +124,7 @@ pub fn told_size(memory: Mem) -> Option<Bits>
     }
 }
 
-/// The address size that an address is written with: what its general registers show, else what the instruction says, else the mode's.
+/// Returns the address size of an encoded address: the one that its general registers show, or else the instruction's, or else the mode's.
 #[inline(always)]
 #[tactic(auto, unfolding(crate::specs::Addresses::written_size))]
 pub fn written_size(bits: Bits, asize: Option<Bits>, memory: Mem) -> Bits
@@ -139,7 +139,7 @@ pub fn written_size(bits: Bits, asize: Option<Bits>, memory: Mem) -> Bits
     }
 }
 
-/// The form that base and index ask for.
+/// Returns the form that a base and an index require.
 #[tactic(auto, unfolding(crate::specs::Addresses::form_of))]
 pub fn form_of(base: Option<Register>, index: Option<Register>) -> AddressForm
     ensures { result ≡ spec.form_of base index }
@@ -208,7 +208,7 @@ fn rm_of_short(base: u8, index: Option<Register>) -> Option<u8>
     }
 }
 
-/// Whether a register is a general one of an address size, with a number of the mode.
+/// Returns whether a register is a general register of an address size that the mode has.
 #[inline(always)]
 #[tactic(auto, unfolding(crate::specs::Addresses::is_address_register))]
 pub fn is_address_register(bits: Bits, asize: Bits, register: Register) -> bool
@@ -355,7 +355,7 @@ fn is_gather_shape(bits: Bits, row: &Row, file: File, memory: Mem) -> bool
         && is_scale(memory.scale)
 }
 
-/// Whether base, index and scale suit an operand that is read so.
+/// Returns whether base, index and scale suit an operand with this method.
 #[tactic(auto, unfolding(crate::specs::Addresses::shape_suits))]
 pub fn shape_suits(bits: Bits, row: &Row, method: Method, file: File, memory: Mem) -> bool
     ensures { result ≡ spec.shape_suits bits row.now method file memory }
@@ -367,7 +367,7 @@ pub fn shape_suits(bits: Bits, row: &Row, method: Method, file: File, memory: Me
     }
 }
 
-/// How many bytes a displacement has.
+/// Returns the number of bytes of a displacement.
 #[tactic(auto, unfolding(crate::specs::Addresses::displacement_count))]
 pub fn displacement_count(size: DispSize) -> u8
     ensures value { result ≡ spec.displacement_count size }
@@ -443,7 +443,7 @@ fn is_displacement(asize: Bits, memory: Mem) -> bool
     }
 }
 
-/// Whether the displacement is one that the shape offers, and a value of its size.
+/// Returns whether the shape allows the displacement's size, and the value fits it.
 #[tactic(auto, unfolding(crate::specs::Addresses::displacement_suits))]
 pub fn displacement_suits(asize: Bits, method: Method, memory: Mem) -> bool
     ensures { result ≡ spec.displacement_suits asize method memory }
@@ -452,7 +452,7 @@ pub fn displacement_suits(asize: Bits, method: Method, memory: Mem) -> bool
         && is_displacement(asize, memory)
 }
 
-/// Whether an operand that is read so is memory by ModRM, and no gather, where it is memory.
+/// Returns whether an operand with this method, if it is memory, is encoded by ModRM without a gather index.
 #[inline(always)]
 pub fn is_by_modrm(method: Method) -> bool
     ensures { result ≡ spec.is_by_modrm method }
@@ -474,9 +474,9 @@ fn is_sole_base(base: Option<Register>, index: Option<Register>) -> bool
     }
 }
 
-/// Whether a base of 64 bits stands alone in 64-bit mode, with a displacement that it offers.
+/// Returns whether the address is a lone 64-bit base in 64-bit mode with a displacement that it allows.
 ///
-/// Most addresses are such, and this one test decides all conditions on them.
+/// Most addresses are of this form, and this one test decides all conditions on them.
 #[inline(always)]
 #[tactic(auto, unfolding(crate::specs::Addresses::is_based))]
 pub fn is_based(bits: Bits, memory: &Mem) -> bool
@@ -626,7 +626,7 @@ fn or_zero(n: Option<u8>) -> u8
     }
 }
 
-/// The plain fields of an address of this address size.
+/// Returns the plain fields of an address of this address size.
 #[inline(always)]
 #[tactic(auto, unfolding(crate::specs::Addresses::address_fields))]
 pub fn address_fields(bits: Bits, asize: Bits, memory: Mem) -> AddressFields

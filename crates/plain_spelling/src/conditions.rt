@@ -675,7 +675,7 @@ fn operand_suits(bits: Bits, row: &Row, instr: &Instr, parts: &PlainParts, n: us
     }
 }
 
-/// Whether the operands 2 and 3 are absent, as their kinds ask. Few rows have more than two.
+/// Returns whether operands 2 and 3 are absent, as their kinds require. Few rows have more than two operands.
 #[inline(always)]
 #[tactic(auto, unfolding(crate::specs::Expressible::is_pair))]
 pub fn is_pair(row: &Row, instr: &Instr) -> bool
@@ -725,8 +725,8 @@ fn tail_suits(
         && address_size_suits(bits, row, instr)
 }
 
-/// The first that fails of the conditions 2 to 9 on an instruction of a row, None where all hold. `parts` are those of its plain spelling at
-/// the address at which it is to stand.
+/// Returns the first of conditions 2 to 9 that fails for an instruction of a row, or None if all hold. `parts` are those of its plain spelling at its
+/// address.
 #[inline(always)]
 pub fn first_failed_condition(
     bits: Bits,
@@ -747,10 +747,10 @@ pub fn first_failed_condition(
     )
 }
 
-/// What [`first_failed_condition`] answers, by whether the operands 2 and 3 are absent as their kinds ask, and by whether the row is a gather. A
-/// caller that knows both saves their tests.
+/// Returns what [`first_failed_condition`] returns, given whether operands 2 and 3 are absent as their kinds require, and whether the row is a
+/// gather. A caller that knows both saves these tests.
 ///
-/// Mostly all hold, which one test of each operand shows; only else the conditions are tested in their order.
+/// Usually all conditions hold, and one test per operand shows it. Only otherwise the conditions are tested in their order.
 #[inline(always)]
 pub fn first_failed_of(
     bits: Bits,

@@ -7,7 +7,7 @@ use instruction_parts::kinds::Method;
 use instruction_parts::row_types::Place;
 use x86_values::{Instr, Operand};
 
-/// Operand n.
+/// Returns operand `n`.
 #[inline]
 pub fn operand_at(instr: &Instr, n: usize) -> Operand
     requires { n < 4 }
@@ -16,7 +16,7 @@ pub fn operand_at(instr: &Instr, n: usize) -> Operand
     instr.ops[n]
 }
 
-/// Whether an operand is a register.
+/// Returns whether an operand is a register.
 #[inline]
 pub fn is_register(operand: Operand) -> bool
     ensures { result ≡ spec.is_register operand }
@@ -36,7 +36,7 @@ fn is_allowed_in(place: Place, operand: Operand) -> bool
     }
 }
 
-/// Whether an operand has a variant that its kind allows: a register, memory, either, an immediate, a near or far target, or nothing.
+/// Returns whether an operand's variant is one that its kind allows: a register, memory, either, an immediate, a near or far target, or nothing.
 #[tactic(auto, unfolding(crate::specs::Forms::is_variant_of))]
 pub fn is_variant_of(place: Place, method: Method, operand: Operand) -> bool
     ensures { result ≡ spec.is_variant_of place method operand }
@@ -52,7 +52,7 @@ pub fn is_variant_of(place: Place, method: Method, operand: Operand) -> bool
     }
 }
 
-/// Whether a number is a scale of a SIB: 1, 2, 4 or 8 (table 2-3).
+/// Returns whether a number is a SIB scale: 1, 2, 4 or 8 (Intel SDM volume 2, table 2-3).
 #[inline]
 pub fn is_scale(scale: u8) -> bool
     ensures { result ≡ spec.is_scale scale }

@@ -26,7 +26,7 @@ fn bit(flag: bool) -> u8
     if flag { 1 } else { 0 }
 }
 
-/// W 1 of a legacy row.
+/// Returns whether a legacy row requires REX.W 1.
 #[tactic(auto, unfolding(crate::specs::PlainFront::asks_rex_w))]
 pub fn asks_rex_w(row: &Row) -> bool
     ensures { result ≡ spec.asks_rex_w row.now }
@@ -49,7 +49,7 @@ fn asks_vex_w(row: &Row) -> bool
     }
 }
 
-/// 66: for the class, or for an operand size of 16 or 32 that is not the row's default in the mode.
+/// Returns whether the row requires 66: for its class, or for an operand size of 16 or 32 that is not its default in the mode.
 pub fn asks_66(bits: Bits, row: &Row) -> bool
     ensures { result ≡ spec.asks_66 bits row.now }
 {
@@ -190,9 +190,9 @@ fn count_repeat(rep: Rep) -> u8
     }
 }
 
-/// The front of the plain spelling of an instruction of a row: the prefixes that stand in it, the VEX, the map and the opcode byte.
+/// Returns the front of the plain spelling of an instruction of a row: its prefixes, VEX, map and opcode byte.
 ///
-/// It is exact where each register operand is one that its kind can name in the mode; elsewhere a vvvv of more than 255 is 255.
+/// The result is exact if each register operand is one that its kind can name in the mode. Otherwise a vvvv above 255 becomes 255.
 pub fn plain_front(bits: Bits, row: &Row, instr: &Instr) -> PrefixState
     requires { IsTrue (sound row.now) }
     ensures value { result ≡ spec.byte_front bits row.now instr.now }
@@ -210,7 +210,7 @@ pub fn plain_front(bits: Bits, row: &Row, instr: &Instr) -> PrefixState
     )
 }
 
-/// The front of the plain spelling by the numbers that the instruction asks, and by what the row asks of W of a REX and of 66.
+/// Returns the front of the plain spelling, given the register numbers that the instruction requires and whether the row requires REX.W and 66.
 pub fn front_asked(
     bits: Bits,
     row: &Row,
@@ -275,7 +275,7 @@ pub(crate) fn front_with(
     }
 }
 
-/// The operand size under the plain prefixes, that of the row, by what the row asks of W of a REX and of 66.
+/// Returns the operand size under the plain prefixes, which is that of the row, given whether the row requires REX.W and 66.
 #[inline]
 pub fn plain_size(bits: Bits, row: &Row, w: bool, size66: bool) -> Bits
     requires w { w ≡ spec.asks_rex_w row.now }

@@ -16,7 +16,7 @@ use thiserror::Error;
 
 /// Why an instruction has no plain spelling in a mode at an address: the first of ten conditions that fails.
 ///
-/// The number of an operand is 0 to 3.
+/// Operand numbers are 0 to 3.
 #[derive(Clone, Copy, PartialEq, Eq, Debug, Error)]
 pub enum NoSpelling {
     /// The code is no row of the table, or its row does not exist in the mode.

@@ -9,7 +9,7 @@ use arrayvec::ArrayVec;
 use row_meaning::numbers::top_of;
 use x86_values::{Bits, wrap};
 
-/// Appends the low n bytes of a number, the lowest first, to an array of eight.
+/// Appends the low `n` bytes of a number, lowest first, to an array of eight.
 pub fn append_low_bytes(bytes: &mut ArrayVec<u8, 8>, n: u8, x: u64)
     requires { array_vec_len bytes.old + n ≤ 8 }
     ensures items { bytes.new.items ≡ bytes.old.items ++ spec.low_bytes n x }
@@ -18,7 +18,7 @@ pub fn append_low_bytes(bytes: &mut ArrayVec<u8, 8>, n: u8, x: u64)
     push_low_bytes(bytes, n, x);
 }
 
-/// Appends the low n bytes of a number, the lowest first.
+/// Appends the low `n` bytes of a number, lowest first.
 #[tactic(auto, unfolding(crate::specs::Values::low_bytes))]
 pub fn push_low_bytes<const N: usize>(bytes: &mut ArrayVec<u8, N>, n: u8, x: u64)
     requires { array_vec_len bytes.old + n ≤ N }
@@ -55,7 +55,7 @@ fn bits_of(size: Bits) -> u8
     }
 }
 
-/// Whether a number is below 2 to the number of bits of a size.
+/// Returns whether a number is below 2 to the number of bits of a size.
 pub fn is_of_width(size: Bits, x: u64) -> bool
     ensures { result ≡ nat_lt x (2 ^ width size) }
 {
@@ -91,8 +91,7 @@ fn half_of_bytes(n: u8) -> u64
     }
 }
 
-/// Whether a number of a size is what n sign-extended bytes give, cut to that size: it is less than half of their range away from 0 or
-/// from the end of the size.
+/// Returns whether a number of a size equals `n` bytes sign-extended to that size.
 #[inline(always)]
 #[tactic(auto, unfolding(crate::specs::Values::is_extended_of))]
 pub fn is_extended_of(n: u8, size: Bits, x: u64) -> bool
@@ -110,7 +109,7 @@ pub fn is_extended_of(n: u8, size: Bits, x: u64) -> bool
     bits_of(size) <= 8 * n || x < half || last - x < half
 }
 
-/// What has to be added to an address to come to another one, modulo 2 to the size.
+/// Returns the distance from one address to another, modulo 2 to the size.
 #[tactic(auto, unfolding(crate::specs::Values::distance))]
 pub fn distance(size: Bits, from: u64, to: u64) -> u64
     ensures { result ≡ spec.distance size from to }
@@ -118,7 +117,7 @@ pub fn distance(size: Bits, from: u64, to: u64) -> u64
     wrap(size, to as u128 + (0x1_0000_0000_0000_0000 - from as u128))
 }
 
-/// Whether a number is below 2 to the number of bits in n bytes.
+/// Returns whether a number fits `n` bytes.
 #[inline(never)]
 pub fn is_below_bytes(n: u8, x: u64) -> bool
     requires { n ≤ 8 }

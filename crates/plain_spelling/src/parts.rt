@@ -19,7 +19,7 @@ use instruction_parts::spelling::{PrefixState, Vex};
 use row_fit::tail_fits::{immediate_bytes, kind_at};
 use x86_values::{Bits, Instr, wrap};
 
-/// What the plain spelling of an instruction at an address is made of.
+/// The parts of the plain spelling of an instruction at an address.
 #[derive(Clone, Copy)]
 pub struct PlainParts {
     /// The address.
@@ -39,7 +39,7 @@ pub struct PlainParts {
     pub next: u64,
 }
 
-/// The bytes that an operand has behind the instruction, at most 8.
+/// Returns the number of immediate bytes of an operand, at most 8.
 #[inline(always)]
 #[tactic(auto, unfolding(row_fit::specs::Fits::immediate_bytes, instruction_parts::specs::Kinds::immediate_width))]
 pub fn immediate_len(size: Bits, kind: OpKind) -> u8
@@ -217,9 +217,9 @@ fn vex_parts(bits: Bits, ip: u64, row: &Row, instr: &Instr) -> PlainParts
     parts_with(bits, ip, row, instr, &asked, is_vex_row(row), vex)
 }
 
-/// The parts of the plain spelling of an instruction of a legacy row at an address.
+/// Returns the parts of the plain spelling of an instruction of a legacy row at an address.
 ///
-/// It is built into its callers, where the parts then lie once.
+/// It is inlined, so that the parts lie in the caller's frame once.
 #[inline(always)]
 pub fn legacy_parts(bits: Bits, ip: u64, row: &Row, instr: &Instr) -> PlainParts
     requires sound { IsTrue (sound row.now) }
@@ -232,7 +232,7 @@ pub fn legacy_parts(bits: Bits, ip: u64, row: &Row, instr: &Instr) -> PlainParts
     parts_with(bits, ip, row, instr, &asked, false, None)
 }
 
-/// The parts of the plain spelling of an instruction of a row at an address.
+/// Returns the parts of the plain spelling of an instruction of a row at an address.
 #[inline(always)]
 pub fn plain_parts(bits: Bits, ip: u64, row: &Row, instr: &Instr) -> PlainParts
     requires { IsTrue (sound row.now) }

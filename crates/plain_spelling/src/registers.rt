@@ -11,7 +11,7 @@ use instruction_parts::kinds::{Method, method_of_kind};
 use instruction_parts::row_types::{OpKind, Row};
 use x86_values::{Instr, Mem, Operand, Register};
 
-/// The number that the encoding gives a register; AH, CH, DH and BH have 4 to 7 (2.1.5, 3.1.1.1).
+/// Returns the number that encodes a register. AH, CH, DH and BH have 4 to 7 (Intel SDM volume 2, 2.1.5 and 3.1.1.1).
 #[inline(always)]
 #[tactic(auto, unfolding(crate::specs::PlainFront::register_number))]
 pub fn register_number(register: Register) -> u16
@@ -48,7 +48,7 @@ fn number_or_zero(register: Option<Register>) -> u16
     }
 }
 
-/// The numbers that an instruction asks of the fields of its spelling, and how long a displacement, each 0 where no operand asks one.
+/// The numbers that an instruction requires in the fields of its spelling, and the length of its displacement; each is 0 if no operand requires one.
 #[derive(Clone, Copy)]
 pub struct Asked {
     /// Of ModRM.reg.
@@ -147,7 +147,7 @@ fn with_operand(kind: OpKind, operand: &Operand, rest: Asked) -> Asked
     }
 }
 
-/// The numbers that the instruction asks, over all operands.
+/// Returns the numbers that an instruction requires, over all operands.
 #[inline(always)]
 pub fn numbers_asked(row: &Row, instr: &Instr) -> Asked
     ensures { AreAskedOf row.now instr.now result }
@@ -179,7 +179,7 @@ fn is_low_byte_of_rex(operand: &Operand) -> bool
     }
 }
 
-/// Whether some operand is SPL, BPL, SIL or DIL, which only a REX can name.
+/// Returns whether some operand is SPL, BPL, SIL or DIL, which require a REX.
 #[inline(always)]
 pub fn asks_low_byte(instr: &Instr) -> bool
     ensures { result ≡ spec.asks_low_byte instr.now.ops }

@@ -85,7 +85,7 @@ fn kind_has_address(kind: OpKind) -> bool
     }
 }
 
-/// The operand that may have a displacement, absent without one.
+/// Returns the operand that may have a displacement, or `Absent` if there is none.
 #[inline(always)]
 pub fn address_operand(row: &Row, instr: &Instr) -> Operand
     ensures { result ≡ spec.address_operand row.now instr.now }
@@ -190,7 +190,7 @@ fn modrm_with(reg: u8, fields: AddressFields) -> ModRm
     }
 }
 
-/// ModRM and SIB of the plain spelling: reg is the digit, or the low three bits of the register (2.1.5, 3.1.1.1).
+/// Returns ModRM and SIB of the plain spelling. reg is the digit, or the low three bits of the register (Intel SDM volume 2, 2.1.5 and 3.1.1.1).
 #[inline(always)]
 #[tactic(auto, unfolding(crate::specs::PlainTail::plain_modrm, crate::specs::PlainTail::plain_sib_of))]
 pub fn plain_addressing(bits: Bits, row: &Row, instr: &Instr, asked: &Asked) -> Addressing
@@ -228,7 +228,7 @@ pub fn plain_addressing(bits: Bits, row: &Row, instr: &Instr, asked: &Asked) -> 
     }
 }
 
-/// How many bytes the displacement of an operand has.
+/// Returns the number of displacement bytes of an operand.
 pub fn operand_displacement(operand: Operand) -> u8
     ensures value { result ≡ spec.operand_displacement operand }
     ensures small { result ≤ 8 }
@@ -255,7 +255,7 @@ fn append_memory_displacement<const N: usize>(bytes: &mut ArrayVec<u8, N>, next:
     }
 }
 
-/// Appends the displacement of an operand before the next address.
+/// Appends the displacement of an operand. `next` is the address after the instruction.
 pub fn append_displacement<const N: usize>(bytes: &mut ArrayVec<u8, N>, next: u64, operand: Operand)
     requires { array_vec_len bytes.old + spec.operand_displacement operand ≤ N }
     ensures items { bytes.new.items ≡ bytes.old.items ++ spec.displacement_of_operand next operand }
@@ -417,8 +417,8 @@ fn plain_immediates(size: Bits, row: &Row, instr: &Instr, next: u64) -> ArrayVec
     bytes
 }
 
-/// The plain spelling of an instruction of a row from the opcode byte on: with the empty list of prefixes and without a VEX. `parts` are those of
-/// the plain spelling.
+/// Returns the plain spelling of an instruction of a row from the opcode byte on, with no prefixes and no VEX. `parts` are those of the plain
+/// spelling.
 #[tactic(auto, unfolding(crate::specs::PlainTail::plain_tail, crate::specs::PlainTail::plain_spelling, crate::specs::PlainFront::byte_front))]
 pub fn plain_tail(bits: Bits, row: &Row, instr: &Instr, parts: &PlainParts) -> Spelling
     requires sound { IsTrue (sound_rule.sound row.now) }

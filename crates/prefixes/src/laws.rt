@@ -14,8 +14,8 @@ ghost use Rattle.plain_spelling.specs.Expressible.{Suits};
 ghost use Rattle.plain_spelling.specs.Writable.{Writable};
 ghost use Rattle.prefixes.specs.Written.{front_written, with_opcode};
 
-/// The bytes of the plain front of an instruction, before the opcode byte and the tail of any fitting spelling of its row, are
-/// read as the plain front with that opcode byte: the same LOCK, repeat prefix, segment, sizes and register bits.
+/// The bytes of the plain front of an instruction, followed by the opcode byte and the tail of any fitting spelling of its row, read as the plain
+/// front with that opcode byte: the same LOCK, repeat prefix, segment, sizes and register bits.
 pub fn written_front_is_read_back()
     ensures { (bits : Bits) (ip : ℕ) (row : Row) (i : Instr) (s : Spelling) (rest : List ℕ)
         → Sound row → Writable bits row → Suits bits ip row i → length i.ops ≡ 4 → IsTrue (fits bits row s)

@@ -355,7 +355,7 @@ fn within_15_bytes(
     }
 }
 
-/// What stands for a front before it is read.
+/// The value of a front that has not been read.
 pub const NO_FRONT: PrefixState = PrefixState {
     used: 0,
     size66: false,
@@ -369,7 +369,7 @@ pub const NO_FRONT: PrefixState = PrefixState {
     opcode: 0,
 };
 
-/// The front of the bytes in a mode that is a value, as [`read_prefixes`] answers it.
+/// Reads the front of the bytes in a mode that is known at run time. Results and errors are those of [`read_prefixes`].
 #[inline]
 pub fn read_front(bits: Bits, bytes: &[u8]) -> Result<PrefixState, PrefixError>
     ensures { result ≡ answer_of (front.front_of bits bytes.now) }
@@ -422,7 +422,7 @@ fn front_of_run(bits: Bits, bytes: &[u8], out: &mut PrefixState) -> Result<(), P
     }
 }
 
-/// Reads the front as [`read_front`] does, and writes it to `out`: as a value it is copied at each call that it comes through.
+/// Reads the front like [`read_front`], but writes it to `out`, which saves copies.
 // Most instructions have no prefix or a REX alone: neither takes a pass over the prefixes.
 #[inline(always)]
 pub fn read_front_into(bits: Bits, bytes: &[u8], out: &mut PrefixState) -> Result<(), PrefixError>
@@ -442,10 +442,10 @@ pub fn read_front_into(bits: Bits, bytes: &[u8], out: &mut PrefixState) -> Resul
     front_of_run(bits, bytes, out)
 }
 
-/// The front of the bytes in the mode `BITS`, which is 16, 32 or 64: what they say up to and with their opcode byte.
+/// Reads the front of the bytes: what they determine up to and including the opcode byte. `BITS` is the mode: 16, 32 or 64.
 ///
-/// Of the bytes only those of the front are looked at; outside 64-bit mode also the byte behind a C4 or C5. ModRM and the
-/// use of vvvv are not looked at. The refusals come exactly where [`PrefixError`] says.
+/// It reads only the bytes of the front, and outside 64-bit mode also the byte after a C4 or C5. It does not check ModRM and the use of vvvv.
+/// [`PrefixError`] says exactly when it fails.
 #[inline]
 pub fn read_prefixes<const BITS: u32>(bytes: &[u8]) -> Result<PrefixState, PrefixError>
     requires { IsTrue (is_mode BITS) }

@@ -89,7 +89,7 @@ fn append_prefixes(out: &mut ArrayVec<u8, 15>, state: &PrefixState)
     append_rex(out, state.rex);
 }
 
-/// Appends the bytes before the opcode byte of a plain front, behind at most six others: what [`write_prefixes`] answers.
+/// Appends the bytes before the opcode byte of a plain front, like [`write_prefixes`]. The list may already have at most six bytes.
 #[inline(always)]
 #[tactic(auto, unfolding(crate::specs::Written::front_written))]
 pub fn append_front(out: &mut ArrayVec<u8, 15>, row: &Row, state: &PrefixState)
@@ -101,10 +101,10 @@ pub fn append_front(out: &mut ArrayVec<u8, 15>, row: &Row, state: &PrefixState)
     append_lead(out, row.map, state.vex);
 }
 
-/// The bytes before the opcode byte of the plain front of an instruction of the row: the legacy prefixes ascending by their
-/// number, the REX, and the VEX or the escape bytes of the map (2.1.1, 2.1.2, 2.2.1, 2.3.5).
+/// Returns the bytes before the opcode byte of the plain front of an instruction of the row: the legacy prefixes in ascending order, the REX, and the
+/// VEX or the escape bytes of the map (Intel SDM volume 2, 2.1.1, 2.1.2, 2.2.1 and 2.3.5).
 ///
-/// `state` is what `plain_front` answers for the instruction in the mode; of it only the range of its VEX is asked for.
+/// `state` is the result of `plain_front` for the instruction in the mode; only the range of its VEX is required.
 pub fn write_prefixes(bits: Bits, row: &Row, state: &PrefixState) -> ArrayVec<u8, 15>
     requires { IsTrue (vex_in_range state.now.vex) }
     ensures { result.items ≡ front_written row.now state.now }

@@ -14,7 +14,7 @@ use instruction_parts::sizes::{bit_w, exists_in, is_vex_row, state_size};
 use instruction_parts::spelling::{ModRm, PrefixState, Vex};
 use x86_values::{Bits, Rep};
 
-/// Whether the map is the one-byte map.
+/// Returns whether the map is the one-byte map.
 pub fn is_map_one(map: Map) -> bool
     ensures { result ≡ spec.is_map_one map }
 {
@@ -24,7 +24,7 @@ pub fn is_map_one(map: Map) -> bool
     }
 }
 
-/// Whether two maps are one.
+/// Returns whether two maps are equal.
 pub fn same_map(a: Map, b: Map) -> bool
     ensures { result ≡ spec.same_map a b }
 {
@@ -37,7 +37,7 @@ pub fn same_map(a: Map, b: Map) -> bool
     }
 }
 
-/// Whether no repeat prefix counts.
+/// Returns whether there is no effective repeat prefix.
 pub fn is_no_repeat(rep: Rep) -> bool
     ensures { result ≡ spec.is_no_repeat rep }
 {
@@ -47,7 +47,7 @@ pub fn is_no_repeat(rep: Rep) -> bool
     }
 }
 
-/// Whether F3 counts.
+/// Returns whether F3 is effective.
 pub fn is_repeat_f3(rep: Rep) -> bool
     ensures { result ≡ spec.is_repeat_f3 rep }
 {
@@ -57,7 +57,7 @@ pub fn is_repeat_f3(rep: Rep) -> bool
     }
 }
 
-/// Whether F2 counts.
+/// Returns whether F2 is effective.
 pub fn is_repeat_f2(rep: Rep) -> bool
     ensures { result ≡ spec.is_repeat_f2 rep }
 {
@@ -116,7 +116,7 @@ fn is_offset_kind(kind: OpKind) -> bool
     }
 }
 
-/// Whether the row reads ModRM.mod.
+/// Returns whether the row reads ModRM.mod.
 #[tactic(auto, unfolding(crate::specs::Fits::reads_mode))]
 pub fn reads_mode(row: &Row) -> bool
     ensures { result ≡ spec.reads_mode row.now }
@@ -124,28 +124,28 @@ pub fn reads_mode(row: &Row) -> bool
     !row.ops.iter().any(|kind| is_any_mode_kind(*kind))
 }
 
-/// Whether some operand of the row is read from vvvv.
+/// Returns whether some operand of the row is read from vvvv.
 pub fn reads_vvvv(row: &Row) -> bool
     ensures { result ≡ spec.reads_by spec.is_vvvv row.now }
 {
     row.ops.iter().any(|kind| is_vvvv_kind(*kind))
 }
 
-/// Whether the row is a gather.
+/// Returns whether the row is a gather.
 pub fn reads_gather(row: &Row) -> bool
     ensures { result ≡ spec.reads_by spec.is_gather row.now }
 {
     row.ops.iter().any(|kind| is_gather_kind(*kind))
 }
 
-/// Whether the row has an absolute address.
+/// Returns whether the row has an absolute address.
 pub fn reads_offset(row: &Row) -> bool
     ensures { result ≡ spec.reads_by spec.is_offset row.now }
 {
     row.ops.iter().any(|kind| is_offset_kind(*kind))
 }
 
-/// Whether each prefix byte is one of the mode.
+/// Returns whether each prefix byte is a prefix in the mode.
 #[tactic(auto, unfolding(crate::specs::Fits::prefixes_fit))]
 pub fn prefixes_fit(bits: Bits, prefixes: &[u8]) -> bool
     ensures { result ≡ spec.prefixes_fit bits prefixes.now }
@@ -183,7 +183,7 @@ fn vex_class_fits(class: Class, v: Vex) -> bool
     }
 }
 
-/// The prefix class.
+/// Returns whether 66, F2 and F3 meet the row's class.
 #[tactic(auto, unfolding(crate::specs::Fits::class_fits))]
 pub fn class_fits(row: &Row, state: &PrefixState) -> bool
     ensures { result ≡ spec.class_fits row.now state.now }
@@ -247,7 +247,7 @@ fn l_fits(l: LBit, v: Vex) -> bool
     }
 }
 
-/// Operand size, W and L.
+/// Returns whether operand size, W and L meet the row.
 #[tactic(auto, unfolding(crate::specs::Fits::sizes_fit))]
 pub fn sizes_fit(bits: Bits, row: &Row, state: &PrefixState) -> bool
     ensures { result ≡ spec.sizes_fit bits row.now state.now }
@@ -263,7 +263,7 @@ pub fn sizes_fit(bits: Bits, row: &Row, state: &PrefixState) -> bool
     }
 }
 
-/// A vvvv that the row does not use is 0.
+/// Returns whether vvvv is 0 if the row does not use it.
 #[tactic(auto, unfolding(crate::specs::Fits::vvvv_fits))]
 pub fn vvvv_fits(row: &Row, state: &PrefixState) -> bool
     ensures { result ≡ spec.vvvv_fits row.now state.now }
@@ -274,7 +274,7 @@ pub fn vvvv_fits(row: &Row, state: &PrefixState) -> bool
     }
 }
 
-/// The conditions that the state alone decides.
+/// Returns whether the conditions that depend on the state alone hold.
 #[inline(always)]
 #[tactic(auto, unfolding(crate::specs::Fits::state_fits))]
 pub fn state_fits(bits: Bits, row: &Row, state: &PrefixState) -> bool
@@ -286,7 +286,7 @@ pub fn state_fits(bits: Bits, row: &Row, state: &PrefixState) -> bool
         && vvvv_fits(row, state)
 }
 
-/// Whether there is a ModRM whose mod says memory.
+/// Returns whether there is a ModRM whose mod selects memory.
 pub fn mode_is_memory(m: Option<ModRm>) -> bool
     ensures { result ≡ spec.has_memory_mode m }
 {
@@ -326,7 +326,7 @@ fn is_opcode(bits: Bits, map: Map, b: u8) -> bool
     }
 }
 
-/// What ModRM an opcode byte allows.
+/// Returns whether the opcode byte allows this ModRM.
 #[tactic(auto, unfolding(crate::specs::Fits::opcode_allows))]
 pub fn opcode_allows(bits: Bits, map: Map, b: u8, m: Option<ModRm>) -> bool
     ensures { result ≡ spec.opcode_allows bits map b m }
@@ -349,7 +349,7 @@ fn opcode_is_kept(bits: Bits, map: Map, opcode: u8, m: Option<ModRm>) -> bool
     is_opcode(bits, map, opcode) && opcode_allows(bits, map, opcode, m)
 }
 
-/// VEX stands exactly on VEX rows, has the row's map, and stands where it may.
+/// Returns whether VEX occurs exactly on VEX rows, with the row's map, and at an allowed position.
 #[tactic(auto, unfolding(crate::specs::Fits::vex_fits))]
 pub fn vex_fits(
     bits: Bits,
@@ -457,7 +457,7 @@ fn place_fits(row: &Row, m: Option<ModRm>) -> bool
     }
 }
 
-/// The opcode byte and ModRM.
+/// Returns whether the opcode byte and ModRM meet the row.
 #[inline(always)]
 #[tactic(auto, unfolding(crate::specs::Fits::opcode_and_modrm_fit))]
 pub fn opcode_and_modrm_fit(row: &Row, opcode: u8, m: Option<ModRm>) -> bool

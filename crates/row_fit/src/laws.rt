@@ -13,7 +13,7 @@ ghost use Rattle.instruction_parts.specs.Sizes.{exists_in, is_vex_row};
 ghost use Rattle.row_fit.specs.Fits.{opcode_fits};
 ghost use Rattle.row_fit.specs.Sound.{sound, Sound, begins_nothing};
 
-/// The front of the bytes of a fitting spelling, whatever follows them, is its own state.
+/// The front of the bytes of a fitting spelling, whatever follows them, is the spelling's own state.
 pub fn front_is_state()
     ensures { (bits : Bits) (row : Row) (s : Spelling) (rest : List ℕ)
         → IsTrue (fits bits row s) → long_front bits (bytes_of row s ++ rest) ≡ Known (state_of bits row s) }
@@ -24,7 +24,7 @@ pub fn fits_each_condition()
     ensures { (bits : Bits) (row : Row) (s : Spelling) → IsTrue (fits bits row s) → Fits bits row s }
 {}
 
-/// Bytes whose front is known are prefixes, a VEX or escape bytes, the opcode byte, and a rest.
+/// Bytes with a known front are prefixes, a VEX or escape bytes, the opcode byte, and a rest.
 pub fn front_has_parts()
     ensures { (bits : Bits) (bytes : List ℕ) (f : PrefixState)
         → IsTrue (are_bytes bytes) → long_front bits bytes ≡ Known f → Parted bits bytes f }
@@ -38,7 +38,7 @@ pub fn bytes_fix_state()
         → state_of bits row s ≡ state_of bits other_row other }
 {}
 
-/// Fitting spellings of one row that begin the same bytes are one spelling, with the same rest.
+/// Fitting spellings of one row that begin the same bytes are equal, with the same rest.
 pub fn one_spelling_of_a_row()
     ensures { (bits : Bits) (row : Row) (s other : Spelling) (rest other_rest : List ℕ)
         → IsTrue (fits bits row s) → IsTrue (fits bits row other)
@@ -58,7 +58,7 @@ pub fn forbidden_front_stays()
         → long_front bits bytes ≡ Forbidden → long_front bits (bytes ++ more) ≡ Forbidden }
 {}
 
-/// The byte behind the bytes that a known front has used is its opcode byte.
+/// The byte after the bytes that a known front has used is its opcode byte.
 pub fn opcode_byte_is_behind_front()
     ensures { (bits : Bits) (bytes : List ℕ) (f : PrefixState)
         → long_front bits bytes ≡ Known f → OpcodeAt bytes f }

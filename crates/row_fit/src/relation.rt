@@ -81,7 +81,7 @@ fn fields_in_range(s: &Spelling) -> bool
         && are_bytes(s.imm.as_slice())
 }
 
-/// Whether a spelling fits a row in a mode.
+/// Returns whether a spelling fits a row in a mode.
 #[tactic(auto, unfolding(crate::specs::Fits::fits))]
 pub fn row_fits(bits: Bits, row: &Row, s: &Spelling) -> bool
     requires { IsTrue (sound row.now) }

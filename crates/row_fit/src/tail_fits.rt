@@ -25,7 +25,7 @@ fn same_bool(a: bool, b: bool) -> bool
     if a { b } else { !b }
 }
 
-/// The field reg of a ModRM, 0 without one.
+/// Returns ModRM.reg, or 0 without a ModRM.
 pub fn reg_field(m: Option<ModRm>) -> u8
     ensures { result ≡ spec.reg_field m }
 {
@@ -35,7 +35,7 @@ pub fn reg_field(m: Option<ModRm>) -> u8
     }
 }
 
-/// The field rm of a ModRM, 0 without one.
+/// Returns ModRM.rm, or 0 without a ModRM.
 pub fn rm_field(m: Option<ModRm>) -> u8
     ensures { result ≡ spec.rm_field m }
 {
@@ -45,14 +45,14 @@ pub fn rm_field(m: Option<ModRm>) -> u8
     }
 }
 
-/// A number with the bit that adds 8 to it.
+/// Returns a number, plus 8 if its high bit is set.
 pub fn with_high_bit(b: bool, n: u8) -> u16
     ensures { result ≡ spec.with_high_bit b n }
 {
     if b { 8 + n as u16 } else { n as u16 }
 }
 
-/// The number in ModRM.reg with R.
+/// Returns the number in ModRM.reg with R.
 #[tactic(auto, unfolding(crate::specs::Fits::reg_number))]
 pub fn reg_number(state: &PrefixState, m: Option<ModRm>) -> u16
     ensures { result ≡ spec.reg_number state.now m }
@@ -60,7 +60,7 @@ pub fn reg_number(state: &PrefixState, m: Option<ModRm>) -> u16
     with_high_bit(bit_r(state), reg_field(m))
 }
 
-/// The number in ModRM.rm with B.
+/// Returns the number in ModRM.rm with B.
 #[tactic(auto, unfolding(crate::specs::Fits::rm_number))]
 pub fn rm_number(bits: Bits, state: &PrefixState, m: Option<ModRm>) -> u16
     ensures { result ≡ spec.rm_number bits state.now m }
@@ -68,7 +68,7 @@ pub fn rm_number(bits: Bits, state: &PrefixState, m: Option<ModRm>) -> u16
     with_high_bit(bit_b(bits, state), rm_field(m))
 }
 
-/// The number in vvvv.
+/// Returns the number in vvvv.
 #[tactic(auto, unfolding(crate::specs::Fits::vvvv_number))]
 pub fn vvvv_number(bits: Bits, state: &PrefixState) -> u8
     ensures { result ≡ spec.vvvv_number bits state.now }
@@ -79,7 +79,7 @@ pub fn vvvv_number(bits: Bits, state: &PrefixState) -> u8
     }
 }
 
-/// The number in SIB.index with X, 0 without a SIB.
+/// Returns the number in SIB.index with X, or 0 without a SIB.
 #[tactic(auto, unfolding(crate::specs::Fits::index_number))]
 pub fn index_number(state: &PrefixState, sib: Option<Sib>) -> u16
     ensures { result ≡ spec.index_number state.now sib }
@@ -90,7 +90,7 @@ pub fn index_number(state: &PrefixState, sib: Option<Sib>) -> u16
     }
 }
 
-/// A SIB stands where rm is 4 with mod other than 3, in 32 and 64-bit addressing.
+/// Returns whether ModRM requires a SIB: rm is 4 and mod is not 3, in 32 and 64-bit addressing.
 #[tactic(auto, unfolding(crate::specs::Fits::needs_sib))]
 pub fn needs_sib(asize: Bits, m: ModRm) -> bool
     ensures { result ≡ spec.needs_sib asize m }
@@ -108,7 +108,7 @@ fn base_field(sib: Option<Sib>) -> u8
     }
 }
 
-/// Mod 0 has a displacement alone.
+/// Returns whether mod 0 encodes a displacement alone.
 #[tactic(auto, unfolding(crate::specs::Fits::is_displacement_alone))]
 pub fn is_displacement_alone(asize: Bits, m: ModRm, sib: Option<Sib>) -> bool
     ensures { result ≡ spec.is_displacement_alone asize m sib }
@@ -128,7 +128,7 @@ fn full_displacement(asize: Bits) -> u8
     if is_16(asize) { 2 } else { 4 }
 }
 
-/// The bytes of the displacement that ModRM and SIB ask for.
+/// Returns the number of displacement bytes that ModRM and SIB require.
 #[tactic(auto, unfolding(crate::specs::Fits::displacement_bytes))]
 pub fn displacement_bytes(asize: Bits, m: ModRm, sib: Option<Sib>) -> u8
     ensures { result ≡ spec.displacement_bytes asize m sib }
@@ -170,7 +170,7 @@ fn address_fits(asize: Bits, row: &Row, m: Option<ModRm>, sib: Option<Sib>, give
     }
 }
 
-/// The bytes that an operand has behind the instruction, by operand size.
+/// Returns the number of immediate bytes of an operand, given the operand size.
 #[inline(always)]
 #[tactic(auto, unfolding(crate::specs::Fits::immediate_bytes, instruction_parts::specs::Kinds::immediate_width))]
 pub fn immediate_bytes(size: Bits, kind: OpKind) -> u8
@@ -187,7 +187,7 @@ pub fn immediate_bytes(size: Bits, kind: OpKind) -> u8
     }
 }
 
-/// The kind of an operand.
+/// Returns the kind of an operand.
 pub fn kind_at(row: &Row, n: usize) -> OpKind
     requires { n < 4 }
     ensures { result ≡ spec.kind_at row.now n }
@@ -195,7 +195,7 @@ pub fn kind_at(row: &Row, n: usize) -> OpKind
     row.ops[n]
 }
 
-/// The bytes of all immediates.
+/// Returns the number of bytes of all immediates.
 #[inline(always)]
 #[tactic(auto, unfolding(crate::specs::Fits::immediates_bytes))]
 pub fn immediates_bytes(size: Bits, row: &Row) -> u8
@@ -209,7 +209,7 @@ pub fn immediates_bytes(size: Bits, row: &Row) -> u8
     first + (second + (third + fourth))
 }
 
-/// The lengths of SIB, displacement and immediates.
+/// Returns whether the lengths of SIB, displacement and immediates are right.
 #[tactic(auto, unfolding(crate::specs::Fits::lengths_fit))]
 pub fn lengths_fit(
     bits: Bits,
@@ -226,7 +226,7 @@ pub fn lengths_fit(
         && imm == immediates_bytes(state_size(bits, row, state), row) as usize
 }
 
-/// Whether an operand that is read so is memory.
+/// Returns whether an operand with this method is memory.
 #[tactic(auto, unfolding(crate::specs::Fits::is_memory_method))]
 pub fn is_memory_method(method: Method, m: Option<ModRm>) -> bool
     ensures { result ≡ spec.is_memory_method method m }
@@ -240,7 +240,7 @@ pub fn is_memory_method(method: Method, m: Option<ModRm>) -> bool
     }
 }
 
-/// LOCK stands only on lockable rows with a memory operand first.
+/// Returns whether LOCK occurs only on a lockable row whose first operand is memory.
 #[tactic(auto, unfolding(crate::specs::Fits::lock_fits))]
 pub fn lock_fits(row: &Row, state: &PrefixState, m: Option<ModRm>) -> bool
     ensures { result ≡ spec.lock_fits row.now state.now m }
@@ -248,7 +248,7 @@ pub fn lock_fits(row: &Row, state: &PrefixState, m: Option<ModRm>) -> bool
     !state.lock || (is_lockable(row) && is_memory_method(method_of_kind(kind_at(row, 0)), m))
 }
 
-/// CR0, CR2, CR3, CR4 and, in 64-bit mode, CR8.
+/// Returns whether a control register exists: CR0, CR2, CR3, CR4 and, in 64-bit mode, CR8.
 #[tactic(auto, unfolding(crate::specs::Fits::is_control_number))]
 pub fn is_control_number(bits: Bits, n: u16) -> bool
     ensures { result ≡ spec.is_control_number bits n }
@@ -327,14 +327,14 @@ fn nop_fits(bits: Bits, row: &Row, state: &PrefixState) -> bool
     }
 }
 
-/// Whether the byte is 90 of the one-byte map.
+/// Returns whether the byte is 90 of the one-byte map.
 pub fn is_nop_byte(row: &Row, opcode: u8) -> bool
     ensures { result ≡ spec.is_nop_byte row.now opcode }
 {
     !is_vex_row(row) && is_map_one(row.map) && opcode == 0x90
 }
 
-/// The conditions on registers.
+/// Returns whether the conditions on registers hold.
 #[inline(always)]
 #[tactic(auto, unfolding(crate::specs::Fits::registers_fit))]
 pub fn registers_fit(
@@ -352,7 +352,7 @@ pub fn registers_fit(
         && (!is_nop_byte(row, state.opcode) || nop_fits(bits, row, state))
 }
 
-/// The conditions on what follows the opcode byte.
+/// Returns whether the conditions on the bytes after the opcode byte hold.
 #[tactic(auto, unfolding(crate::specs::Fits::tail_fits))]
 pub fn tail_fits(
     bits: Bits,

@@ -13,7 +13,7 @@ use instruction_parts::row_types::{
     Class, LBit, Map, Marks, ModRmRule, ModeMask, OpKind, Place, Plus, Row, RowKind, Size, WBit,
 };
 
-/// A row as it lies in a table: the operands stand side by side.
+/// A row as a table stores it, with the operands side by side.
 #[derive(Clone, Copy)]
 pub struct FlatRow {
     pub kind: RowKind,
@@ -35,7 +35,7 @@ pub struct FlatRow {
 }
 
 impl FlatRow {
-    /// The row itself.
+    /// Returns the row.
     #[inline]
     pub fn row(&self) -> Row
         ensures { result ≡ row_of self.now }
@@ -58,14 +58,14 @@ impl FlatRow {
     }
 }
 
-/// Where the rows of a cell lie: the index of the first, and how many there are.
+/// The rows of a cell: the index of the first, and their number.
 #[derive(Clone, Copy)]
 pub struct Span {
     pub first: u16,
     pub count: u16,
 }
 
-/// A list of rows of one kind, with where the rows of each of its cells lie: a line of spans for each map.
+/// A list of rows of one kind, with the span of each cell: one line of spans for each map.
 #[derive(Clone, Copy)]
 pub struct RowList {
     pub kind: RowKind,
@@ -74,7 +74,7 @@ pub struct RowList {
 }
 
 impl RowList {
-    /// A list of these rows, with where those of each cell lie.
+    /// Makes a list of these rows with these spans.
     #[inline]
     pub fn new(kind: RowKind, rows: &'static [FlatRow], spans: &'static [[Span; 256]; 4]) -> RowList
         ensures kind { result.kind ≡ kind }
@@ -84,7 +84,7 @@ impl RowList {
         RowList { kind, rows, spans }
     }
 
-    /// The row at an index of the list, from 0.
+    /// Returns the row at an index of the list, from 0.
     #[inline]
     pub fn row_at(&self, at: usize) -> Row
         requires { at < length (rows_of self.now.rows.now) }
@@ -93,7 +93,7 @@ impl RowList {
         self.rows[at].row()
     }
 
-    /// How many of the rows stand at an opcode byte of a map. A row that adds a register to its opcode byte stands at eight.
+    /// Returns the number of rows at an opcode byte of a map. A row that adds a register to its opcode byte belongs to eight cells.
     pub fn cell_len(&self, map: Map, opcode: u8) -> u16
         requires { AreCellSpansOf self.now.kind (rows_of self.now.rows.now) self.now.spans.now }
         ensures { result ≡ length (cell_of (rows_of self.now.rows.now) self.now.kind map opcode) }
@@ -101,7 +101,7 @@ impl RowList {
         span_in(self.spans, map, opcode).count
     }
 
-    /// The `i`-th of these rows, from 0, in the order of the list.
+    /// Returns the `i`-th of these rows, from 0, in the order of the list.
     pub fn cell_row(&self, map: Map, opcode: u8, i: u16) -> Row
         requires spans { AreCellSpansOf self.now.kind (rows_of self.now.rows.now) self.now.spans.now }
         requires within { i < length (cell_of (rows_of self.now.rows.now) self.now.kind map opcode) }
@@ -112,7 +112,7 @@ impl RowList {
     }
 }
 
-/// Where the rows of a cell lie, from a line of spans for each map.
+/// Returns the span of a cell, given a line of spans for each map.
 pub fn span_in(spans: &[[Span; 256]; 4], map: Map, opcode: u8) -> Span
     requires { (s : Span) × (cell_span spans.now (map_index map) opcode ≡ Some s) }
     ensures { cell_span spans.now (map_index map) opcode ≡ Some result }
@@ -121,7 +121,7 @@ pub fn span_in(spans: &[[Span; 256]; 4], map: Map, opcode: u8) -> Span
     line[opcode as usize]
 }
 
-/// The opcode maps in the order of a table's lines of cells.
+/// Returns the number of an opcode map: its position among a table's lines of cells.
 #[inline]
 pub fn map_number(map: Map) -> usize
     ensures number { result ≡ map_index map }

@@ -3,7 +3,7 @@
 pub use instruction_parts::row_types::Map;
 pub use x86_values::Rep;
 
-/// What the opcode tables see of an instruction's bytes, up to its ModRM.
+/// The nine fields of an instruction's bytes, up to ModRM, that the opcode tables use.
 #[derive(Clone, Copy)]
 pub struct Fields {
     /// Whether a VEX precedes the opcode byte.

@@ -18,7 +18,7 @@ use instruction_parts::spelling::PrefixState;
 use row_fit::fits::mode_is_memory;
 use x86_values::{Bits, Code, Instr, Operand};
 
-/// What each operand of an instruction is read by: the mode, the operand size, the row's L, and what follows the opcode byte.
+/// What determines each operand of an instruction: the mode, the operand size, the row's L, and what follows the opcode byte.
 #[derive(Clone, Copy)]
 pub struct Given<'a> {
     pub bits: Bits,
@@ -115,8 +115,8 @@ fn given_operand_into(
     }
 }
 
-/// What a state, a tail and its immediates mean, written to `out`, as [`instr_into`](crate::operands::instr_into) does. Of the row's operands
-/// at most one has bytes of the immediates, and the operand size and L that are given are those of the row.
+/// Writes to `out` what a state, a tail and its immediates mean, like [`instr_into`](crate::operands::instr_into). At most one of the row's operands
+/// may have bytes of the immediates, and operand size and L must be those of the row.
 #[inline(always)]
 #[tactic(auto, unfolding(crate::specs::Meaning::instr_of))]
 pub fn given_instr_into(given: &Given, code: Code, row: &Row, state: &PrefixState, out: &mut Instr)

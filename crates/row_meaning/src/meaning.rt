@@ -29,7 +29,7 @@ fn segment_numbered(n: u8) -> Segment
     }
 }
 
-/// A general register of a size.
+/// Returns the general register of a size with a number.
 #[tactic(auto, unfolding(crate::specs::Meaning::general_register))]
 pub fn general_register(size: Bits, n: u8) -> Register
     ensures { result ≡ spec.general_register size n }
@@ -96,7 +96,7 @@ fn native_size(bits: Bits) -> Bits
     }
 }
 
-/// The register of a file with a number.
+/// Returns the register of a file with a number.
 #[inline(always)]
 pub fn register_of(bits: Bits, row: &Row, state: &PrefixState, file: File, n: u8) -> Register
     ensures { result ≡ spec.register_of bits row.now state.now file n }
@@ -104,7 +104,7 @@ pub fn register_of(bits: Bits, row: &Row, state: &PrefixState, file: File, n: u8
     register_of_size(bits, state_size(bits, row, state), row.l, state, file, n)
 }
 
-/// The register of a file with a number, where the operand size and the row's L are known.
+/// Returns the register of a file with a number, given the operand size and the row's L.
 #[inline(always)]
 #[tactic(auto, unfolding(crate::specs::Meaning::register_of))]
 pub fn register_of_size(
@@ -136,7 +136,7 @@ pub fn register_of_size(
     }
 }
 
-/// The size of a displacement of so many bytes.
+/// Returns the displacement size of a number of bytes.
 #[tactic(auto, unfolding(crate::specs::Meaning::disp_size_of))]
 pub fn disp_size_of(n: usize) -> DispSize
     ensures { result ≡ spec.disp_size_of n }
@@ -181,7 +181,7 @@ fn index_16(rm: u8) -> Option<Register>
     }
 }
 
-/// An address in 16-bit addressing.
+/// Returns an address in 16-bit addressing.
 #[tactic(auto, unfolding(crate::specs::Meaning::memory_16))]
 pub fn memory_16(m: ModRm, disp: &[u8]) -> Mem
     requires { length disp.now ≤ 8 }
@@ -206,7 +206,7 @@ pub fn memory_16(m: ModRm, disp: &[u8]) -> Mem
     }
 }
 
-/// The sum of an address and a sign-extended distance, cut to a size.
+/// Returns the sum of an address and a sign-extended distance, modulo 2 to a size.
 pub fn target(size: Bits, next: u64, distance: &[u8]) -> u64
     requires { length distance.now ≤ 8 }
     ensures { result ≡ spec.target_of size next distance.now }
@@ -217,7 +217,7 @@ pub fn target(size: Bits, next: u64, distance: &[u8]) -> u64
     )
 }
 
-/// An address without base and index.
+/// Returns an address without base and index.
 #[tactic(auto, unfolding(crate::specs::Meaning::ip_or_absolute))]
 pub fn ip_or_absolute(bits: Bits, asize: Bits, next: u64, disp: &[u8]) -> Mem
     requires { length disp.now ≤ 8 }

@@ -96,7 +96,7 @@ fn size_at(row: &Row, n: usize) -> u8
     }
 }
 
-/// The size in bytes of the row's memory operand, 0 where there is none.
+/// Returns the size in bytes of the row's memory operand, or 0 if there is none.
 #[tactic(auto, unfolding(crate::specs::MemorySize::memory_size))]
 pub fn row_memory_size(row: &Row) -> u8
     requires { IsTrue (sound row.now) }

@@ -20,7 +20,7 @@ fn any_number(bytes: &[u8]) -> u64
     }
 }
 
-/// The number whose bytes these are, the lowest first.
+/// Returns the number that some bytes encode, lowest byte first.
 // One byte and four are read at once: most displacements and immediates have one of these lengths.
 #[inline]
 #[tactic(auto, unfolding(crate::specs::Meaning::little_endian))]
@@ -37,7 +37,7 @@ pub fn little_endian(bytes: &[u8]) -> u64
     }
 }
 
-/// 2 to the number of bits in so many bytes.
+/// Returns 2 to the number of bits in `n` bytes.
 #[inline]
 pub fn top_of(len: usize) -> u128
     requires { len ≤ 8 }
@@ -57,7 +57,7 @@ pub fn top_of(len: usize) -> u128
     }
 }
 
-/// The number in these bytes, sign-extended and cut to a size.
+/// Returns the number in these bytes, sign-extended and reduced to a size.
 #[tactic(auto, unfolding(crate::specs::Meaning::sign_extended))]
 pub fn sign_extended(size: Bits, bytes: &[u8]) -> u64
     requires { length bytes.now ≤ 8 }

@@ -298,7 +298,7 @@ fn gather_operand(
     }
 }
 
-/// What follows the opcode byte of an instruction, and the address behind its last byte.
+/// The bytes after the opcode byte of an instruction, and the address after its last byte.
 #[derive(Clone, Copy)]
 pub struct Behind<'a> {
     pub modrm: Option<ModRm>,
@@ -622,7 +622,7 @@ pub(crate) fn kept_address_size(
     }
 }
 
-/// What stands for an instruction before it is read.
+/// The value of an instruction that has not been read.
 pub const UNREAD: Instr = Instr {
     code: Code(0),
     lock: false,
@@ -632,8 +632,7 @@ pub const UNREAD: Instr = Instr {
     ops: [Operand::Absent; 4],
 };
 
-/// What a state, a tail and its immediates mean, written to `out`. An instruction as a value is copied at each call that it comes
-/// through.
+/// Writes to `out` what a state, a tail and its immediates mean. Returning the instruction would copy it at each call.
 #[inline(always)]
 #[tactic(auto, unfolding(crate::specs::Meaning::instr_of))]
 pub fn instr_into(
@@ -718,7 +717,7 @@ fn spelling_len(row: &Row, s: &Spelling) -> usize
         + s.imm.len()
 }
 
-/// What a fitting spelling means at an address.
+/// Returns what a fitting spelling means at an address.
 #[tactic(auto, unfolding(crate::specs::Meaning::meaning))]
 pub fn row_meaning(bits: Bits, ip: u64, code: Code, row: &Row, s: &Spelling) -> Instr
     requires sound { IsTrue (sound row.now) }

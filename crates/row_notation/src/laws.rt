@@ -4,7 +4,7 @@ ghost use Rattle.std.specs.Prelude.{◌≡◌, ℕ, List};
 ghost use Rattle.instruction_parts.specs.declared.row_types.RowShape.{RowShape};
 ghost use Rattle.row_notation.specs.Texts.{IsTextOf};
 
-/// No text belongs to two shapes.
+/// A text is the notation of at most one shape.
 pub fn one_shape_of_a_text()
     ensures { (text : List ℕ) (s t : RowShape) → IsTextOf text s → IsTextOf text t → s ≡ t }
 {}

@@ -557,15 +557,15 @@ fn read_text(text: &[u8]) -> Result<RowShape, usize>
     better(read_class(blank(RowKind::Legacy), text), read_vex(text))
 }
 
-/// A text that is no shape's: `at` is the length of its longest prefix that begins some shape's text.
+/// A text that is no notation. `at` is the length of its longest prefix that begins some notation.
 #[derive(Clone, Copy, PartialEq, Eq, Debug, Error)]
 #[error("no notation goes on as this one does at byte {at}")]
 pub struct NotationFault {
     pub at: usize,
 }
 
-/// The shape of which the text is the notation. A text that is no shape's is a fault, at the length of its longest prefix
-/// that begins some shape's text.
+/// Returns the shape whose notation a text is. It fails exactly if the text is no notation, with the length of its longest prefix that begins some
+/// notation.
 pub fn read_notation(text: &[u8]) -> Result<RowShape, NotationFault>
     ensures shape { IfOk result (λ s. IsTextOf text.now s) }
     ensures only { (s : RowShape) → IsTextOf text.now s → result ≡ Ok s }

@@ -172,8 +172,7 @@ fn adds_stack(row: &Row) -> bool
     }
 }
 
-/// The shape of a row: the part of it that its notation shows. The condition is that its parts make a proper shape,
-/// as those of every row of the table do.
+/// Returns the shape of a row: the part of it that its notation shows. The parts must make a proper shape, as those of every row of the table do.
 #[tactic(auto, unfolding(crate::specs::Shape::shape))]
 pub fn shape_of(row: &Row) -> RowShape
     requires { IsTrue (spec.is_proper (spec.shape row.now)) }

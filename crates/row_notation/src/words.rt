@@ -5,7 +5,7 @@ ghost use Rattle.row_notation.specs.Notation as spec;
 
 use instruction_parts::row_types::{Class, ImmWord, LBit, Map, PlusWord, SizeWord, WBit};
 
-/// The class word, with the space behind it.
+/// Returns the class word and the space after it.
 pub fn class_text<'a>(class: Class) -> &'a [u8]
     ensures text { result.now ≡ spec.class_text class }
     ensures short { length result.now ≤ 4 }
@@ -21,7 +21,7 @@ pub fn class_text<'a>(class: Class) -> &'a [u8]
     }
 }
 
-/// The size word, with the space behind it.
+/// Returns the size word and the space after it.
 pub fn size_text<'a>(word: SizeWord) -> &'a [u8]
     ensures text { result.now ≡ spec.size_text word }
     ensures short { length result.now ≤ 8 }
@@ -35,7 +35,7 @@ pub fn size_text<'a>(word: SizeWord) -> &'a [u8]
     }
 }
 
-/// The escape bytes of a legacy map, with the space behind them.
+/// Returns the escape bytes of a legacy map and the space after them.
 pub fn map_text<'a>(map: Map) -> &'a [u8]
     ensures text { result.now ≡ spec.map_text map }
     ensures short { length result.now ≤ 6 }
@@ -48,7 +48,7 @@ pub fn map_text<'a>(map: Map) -> &'a [u8]
     }
 }
 
-/// The register that is added to the opcode byte.
+/// Returns the register that is added to the opcode byte.
 pub fn plus_text<'a>(word: PlusWord) -> &'a [u8]
     ensures text { result.now ≡ spec.plus_text word }
     ensures short { length result.now ≤ 3 }
@@ -62,7 +62,7 @@ pub fn plus_text<'a>(word: PlusWord) -> &'a [u8]
     }
 }
 
-/// The stack number that is added to a ModRM byte.
+/// Returns the stack number that is added to a ModRM byte.
 pub fn stack_text<'a>(stack: bool) -> &'a [u8]
     ensures text { result.now ≡ spec.stack_text stack }
     ensures short { length result.now ≤ 2 }
@@ -70,7 +70,7 @@ pub fn stack_text<'a>(stack: bool) -> &'a [u8]
     if stack { b"+i" } else { b"" }
 }
 
-/// The immediates, each with the space before it.
+/// Returns the immediates, each with the space before it.
 pub fn imm_text<'a>(word: ImmWord) -> &'a [u8]
     ensures text { result.now ≡ spec.imm_text word }
     ensures short { length result.now ≤ 6 }
@@ -90,7 +90,7 @@ pub fn imm_text<'a>(word: ImmWord) -> &'a [u8]
     }
 }
 
-/// L of a VEX.
+/// Returns L of a VEX.
 pub fn l_text<'a>(l: LBit) -> &'a [u8]
     ensures text { result.now ≡ spec.l_text l }
     ensures short { length result.now ≤ 3 }
@@ -104,7 +104,7 @@ pub fn l_text<'a>(l: LBit) -> &'a [u8]
     }
 }
 
-/// pp of a VEX, with the point before it.
+/// Returns pp of a VEX with the point before it.
 pub fn pp_text<'a>(class: Class) -> &'a [u8]
     ensures text { result.now ≡ spec.pp_text class }
     ensures short { length result.now ≤ 3 }
@@ -117,7 +117,7 @@ pub fn pp_text<'a>(class: Class) -> &'a [u8]
     }
 }
 
-/// The map of a VEX, with the point before it.
+/// Returns the map of a VEX with the point before it.
 pub fn vex_map_text<'a>(map: Map) -> &'a [u8]
     ensures text { result.now ≡ spec.vex_map_text map }
     ensures short { length result.now ≤ 5 }
@@ -130,7 +130,7 @@ pub fn vex_map_text<'a>(map: Map) -> &'a [u8]
     }
 }
 
-/// W of a VEX, with the point before it and the space behind it.
+/// Returns W of a VEX with the point before it and the space after it.
 pub fn w_text<'a>(w: WBit) -> &'a [u8]
     ensures text { result.now ≡ spec.w_text w }
     ensures short { length result.now ≤ 5 }
@@ -143,7 +143,7 @@ pub fn w_text<'a>(w: WBit) -> &'a [u8]
     }
 }
 
-/// A hexadecimal digit, of a number below 16.
+/// Returns the hexadecimal digit of a number below 16.
 pub fn digit_text(d: u8) -> u8
     requires { d < 16 }
     ensures { result ≡ spec.digit_text d }

@@ -83,8 +83,8 @@ fn append_vex(out: &mut ArrayVec<u8, 64>, s: &RowShape)
     append_opcode(out, s);
 }
 
-/// The notation of a row: the text of its shape, as `REX.W + 81 /0 id`. The condition is that its parts make a proper
-/// shape, as those of every row of the table do.
+/// Returns the notation of a row: the text of its shape, such as `REX.W + 81 /0 id`. The parts must make a proper shape, as those of every row of the
+/// table do.
 #[tactic(auto, unfolding(crate::specs::Notation::notation, crate::specs::Shape::is_proper, crate::specs::Shape::shape))]
 pub fn write_notation(row: &Row) -> ArrayVec<u8, 64>
     requires { IsTrue (shape.is_proper (shape.shape row.now)) }

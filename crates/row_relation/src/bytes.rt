@@ -99,7 +99,7 @@ fn append_vex(out: &mut ArrayVec<u8, 15>, v: Vex)
     }
 }
 
-/// Appends the bytes between the prefixes and the opcode byte: those of the VEX, else the escape bytes of the map (2.1.2, 2.3.5).
+/// Appends the bytes between the prefixes and the opcode byte: the VEX, or else the escape bytes of the map (Intel SDM volume 2, 2.1.2 and 2.3.5).
 #[tactic(auto, unfolding(instruction_parts::specs::Bytes::lead_bytes, row_fit::specs::Fits::vex_in_range))]
 pub fn append_lead(out: &mut ArrayVec<u8, 15>, map: Map, vex: Option<Vex>)
     requires range { IsTrue (fits.vex_in_range vex) }
@@ -116,7 +116,7 @@ pub fn append_lead(out: &mut ArrayVec<u8, 15>, map: Map, vex: Option<Vex>)
     }
 }
 
-/// The ModRM byte.
+/// Returns the ModRM byte.
 pub fn modrm_byte(m: ModRm) -> u8
     requires mode { m.mode3 < 4 }
     requires reg { m.reg < 8 }
@@ -126,7 +126,7 @@ pub fn modrm_byte(m: ModRm) -> u8
     m.mode3 * 64 + m.reg * 8 + m.rm
 }
 
-/// The SIB byte.
+/// Returns the SIB byte.
 pub fn sib_byte(s: Sib) -> u8
     requires scale { s.scale < 4 }
     requires index { s.index < 8 }
@@ -162,7 +162,7 @@ fn append_sib(out: &mut ArrayVec<u8, 15>, s: Option<Sib>)
     }
 }
 
-/// Appends the opcode byte of a spelling and what follows it: ModRM, SIB, displacement and immediates (2.1).
+/// Appends the opcode byte of a spelling and what follows it: ModRM, SIB, displacement and immediates (Intel SDM volume 2, 2.1).
 #[tactic(auto, unfolding(instruction_parts::specs::Bytes::tail_bytes))]
 pub fn append_tail(out: &mut ArrayVec<u8, 15>, s: &Spelling)
     requires room { array_vec_len out.old + (1 + length (spec.tail_bytes s.now)) ≤ 15 }
@@ -216,7 +216,8 @@ fn append_immediates_if(
     }
 }
 
-/// Appends the opcode byte of the plain spelling of an instruction and what follows it, by the parts of the plain spelling (2.1).
+/// Appends the opcode byte of the plain spelling of an instruction and what follows it, given the parts of the plain spelling (Intel SDM volume 2,
+/// 2.1).
 #[inline(always)]
 #[tactic(auto, unfolding(instruction_parts::specs::Bytes::modrm_bytes, instruction_parts::specs::Bytes::sib_bytes))]
 pub fn append_plain_tail(out: &mut ArrayVec<u8, 15>, row: &Row, instr: &Instr, parts: &PlainParts)
@@ -235,7 +236,7 @@ pub fn append_plain_tail(out: &mut ArrayVec<u8, 15>, row: &Row, instr: &Instr, p
     append_immediates_if(out, parts.immediates, parts.size, row, instr, parts.next);
 }
 
-/// The bytes of a spelling of the row.
+/// Returns the bytes of a spelling of the row.
 #[tactic(auto, unfolding(instruction_parts::specs::Bytes::bytes_of, instruction_parts::specs::Bytes::front_bytes, instruction_parts::specs::Bytes::tail_bytes, row_fit::specs::Fits::fields_in_range))]
 pub fn spelling_bytes(row: &Row, s: &Spelling) -> ArrayVec<u8, 15>
     requires sound { IsTrue (sound row.now) }

@@ -11,11 +11,11 @@ use instruction_parts::row_types::Row;
 use plain_spelling::front;
 use x86_values::{Bits, Instr};
 
-/// The front of the plain spelling of an instruction of the row: the prefixes that stand in it, the VEX, the map and the opcode
-/// byte, as the fields of the instruction ask for them (Intel SDM volume 2, 2.1 to 2.3).
+/// Returns the front of the plain spelling of an instruction of the row: its prefixes, VEX, map and opcode byte, as the fields of the instruction
+/// require them (Intel SDM volume 2, 2.1 to 2.3).
 ///
-/// Each register operand has to be one that its kind can name in the mode; the other conditions of a plain spelling need not hold.
-/// `used` is the number of bytes before the opcode byte, 0 to 15.
+/// Each register operand must be one that its kind can name in the mode; the other conditions of a plain spelling need not hold. `used` is the number
+/// of bytes before the opcode byte, 0 to 15.
 pub fn plain_front(bits: Bits, row: &Row, instr: &Instr) -> PrefixState
     requires sound { IsTrue (sound row.now) }
     requires registers { IsTrue (each_operand (register_suits bits row.now instr.now)) }

@@ -10,7 +10,7 @@ use code_region::NotTaken;
 use code_region::live_entries::{Executor, run_commands};
 use std::alloc::Global;
 
-/// One command to slots.
+/// A command to a set of slots.
 #[derive(Clone, Copy, PartialEq, Eq, Debug)]
 pub enum StepCommand {
     /// Give the instruction a slot, as [`StepSlots::step`] does.
@@ -19,7 +19,7 @@ pub enum StepCommand {
     Finish { place: u64 },
 }
 
-/// The reply to one command.
+/// The reply to a command.
 #[derive(Clone, Copy, PartialEq, Eq, Debug)]
 pub enum StepReply {
     /// A slot is live at `place`.
@@ -67,9 +67,9 @@ impl Executor<StepCommand, StepReply> for StepSlots {
     ghost stays_fit = { still-fits };
 }
 
-/// Does these commands, in order, and writes the reply to each.
+/// Executes commands in order, and writes the reply to each.
 ///
-/// There is room for as many replies as there are commands, and each instruction was read, or could have been written, at its address.
+/// `replies` must be as long as `commands`. Each instruction was decoded, or could have been encoded, at its address.
 pub fn replay(
     slots: &mut StepSlots,
     alloc: Global,

@@ -4,7 +4,7 @@ ghost use Rattle.step_slots.specs.Facts.{LiveSlotFacts, ReservedFacts};
 
 use crate::laws_below::laws_below;
 
-/// Slots keep their blocks in units and apart from each other, from none on and with each step.
+/// Slots keep their blocks in units of 16 bytes and disjoint, at the start and after each step.
 #[inline]
 pub fn slots_stay_apart()
     ensures { LiveSlotFacts }
@@ -12,7 +12,7 @@ pub fn slots_stay_apart()
     laws_below();
 }
 
-/// An instruction has 1 to 53 bytes reserved for it, which are rounded up.
+/// An instruction reserves 1 to 53 bytes, which are rounded up.
 #[inline]
 pub fn reserved_lengths_are_short()
     ensures { ReservedFacts }

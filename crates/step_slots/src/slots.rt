@@ -28,7 +28,7 @@ const MAX_SIZE: u64 = 1_048_576;
 /// The greatest number of live slots.
 const MAX_BLOCKS: u64 = 65_536;
 
-/// A live slot: the address where its block starts, and the instruction in it with its own address.
+/// A live slot: the address of its block, and the instruction in it with its own address.
 #[derive(Clone, Copy, PartialEq, Eq, Debug)]
 pub struct StepSlot {
     pub place: u64,
@@ -58,10 +58,17 @@ impl LiveEntry for StepSlot {
     ghost block_len = { λ s slot block is. is.len };
 }
 
-/// Slots in a fixed range of addresses.
+/// Slots for displaced single stepping in a fixed range of addresses.
 ///
-/// Each live slot has a block of a multiple of 16 bytes, in the first gap that is long enough: the moved image of its instruction, which keeps its target,
-/// and a jump back to the address behind the instruction where it stood. Every other byte is CC (INT3).
+/// Each live slot has a block of a multiple of 16 bytes, in the first gap that is long enough. The block holds the moved image of its instruction,
+/// which keeps its target, and a jump back to the address after the original instruction. Every other byte is CC (INT3).
+///
+/// ```
+/// let mut slots = StepSlots::make(rt.alloc(), Bits::B64, 0x50_0000, 4096, 16)?;
+/// let place = step_code(&mut slots, rt.alloc(), 0x40_1000, &FUNCTION)?;
+/// println!(rt; "{place:x} {}", slots.live().len())?; // 500000 1
+/// slots.finish(place)?;
+/// ```
 #[derive(Drop)]
 pub struct StepSlots {
     bits: Bits,
@@ -101,11 +108,11 @@ fn refusal_of(bits: Bits, base: u64, size: u64, max_blocks: u64) -> Option<OpenE
 }
 
 impl StepSlots {
-    /// Makes slots of a mode in `size` bytes from the address `base` on, with room for `max_blocks` live slots, and none yet. It takes all memory for
+    /// Makes an empty set of slots for a mode, in `size` bytes at the address `base`, for up to `max_blocks` live slots. It allocates all memory for
     /// them.
     ///
-    /// Refused, in this order: a size that is 0, no multiple of 16 or above 1,048,576; room for 0 slots or above 65,536; a range that ends behind the
-    /// address space of the mode; and at any point where there is no memory.
+    /// Errors, in this order: the size is 0, not a multiple of 16, or above 1,048,576; `max_blocks` is 0 or above 65,536; the range ends past the
+    /// address space of the mode. Lack of memory can occur at any point.
     pub fn make(
         alloc: Global,
         bits: Bits,
@@ -135,18 +142,19 @@ impl StepSlots {
         })
     }
 
-    /// The mode of the slots.
+    /// Returns the mode of the slots.
     pub fn bits(&self) -> Bits
         ensures { result ≡ self.now.bits }
     {
         self.bits
     }
 
-    /// Gives an instruction a slot, and answers the address of its block.
+    /// Gives an instruction a slot, and returns the address of its block.
     ///
-    /// The instruction was read, or could have been written, at its address. Refused, in this order and with nothing changed: as many live slots as there
-    /// is room for; no gap of the length that is reserved for the block, the longest that it may take; an instruction that does not reach its target from
-    /// the place; and at any point where there is no memory.
+    /// The instruction was decoded, or could have been encoded, at its address.
+    ///
+    /// Errors, in this order; each leaves the slots unchanged: the maximum number of slots is live; no gap has the length that is reserved for the
+    /// block, its maximum; the instruction cannot reach its target from the slot. Lack of memory can occur at any point.
     pub fn step(&mut self, alloc: Global, item: Placed) -> Result<u64, StepError>
         requires { IsPlaced self.old.bits item }
         ensures { IsStepped self.old item result self.new }
@@ -157,9 +165,9 @@ impl StepSlots {
         Ok(place)
     }
 
-    /// Ends the live slot whose block starts at `place`, and sets its bytes to CC.
+    /// Releases the live slot whose block starts at `place`, and sets its bytes to CC.
     ///
-    /// Refused, with nothing changed, exactly where no live slot starts there.
+    /// Fails exactly if no live slot starts there, and then changes nothing.
     pub fn finish(&mut self, place: u64) -> Result<(), NotTaken>
         ensures answer { result ≡ release_answer self.old.region place }
         ensures state { self.new ≡ after_finish self.old place }
@@ -171,7 +179,7 @@ impl StepSlots {
         Ok(())
     }
 
-    /// The live slots, by address.
+    /// Returns the live slots, in the order of addresses.
     pub fn live(&self) -> &[StepSlot]
         ensures slots { result.now ≡ self.now.slots }
         ensures apart { SlotsAreApart self.now }
@@ -180,7 +188,7 @@ impl StepSlots {
         &self.live
     }
 
-    /// The bytes of the range: the blocks of the live slots, and CC elsewhere.
+    /// Returns the bytes of the range: the blocks of the live slots, and CC elsewhere.
     pub fn image(&self) -> &[u8]
         ensures value { result.now ≡ region_image self.now.region }
         ensures slots { HoldsSlots self.now result.now }

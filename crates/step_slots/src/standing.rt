@@ -12,7 +12,7 @@ use std::alloc::Global;
 use thiserror::Error;
 use x86_values::Bits;
 
-/// Why an instruction has no block at a place.
+/// Why an instruction has no block at an address.
 #[derive(Clone, Copy, PartialEq, Eq, Debug, Error)]
 pub enum StandError {
     /// There was not enough memory.
@@ -26,12 +26,14 @@ pub enum StandError {
     TooFar { target: u64 },
 }
 
-/// The block of an instruction at a place: its moved image there, which keeps its target, and a jump back to the address behind the instruction where it
-/// stood. The jump back is the second of the moved items, so `starts()[1]` is its address.
+/// Returns the block of an instruction at an address: its moved image, which keeps its target, and a jump back to the address after the original
+/// instruction. The jump back is the second moved item, so its address is `starts()[1]`.
 ///
-/// It is the block that [`StepSlots::step`](crate::StepSlots::step) fills a slot with, for a caller who has places of another kind. The instruction was read, or
-/// could have been written, at its address. Refused, in this order: a block that would end behind the address space of the mode; an instruction that does
-/// not reach its target from there; and at any point where there is no memory.
+/// [`StepSlots::step`](crate::StepSlots::step) fills a slot with the same block; this function serves callers that manage addresses themselves. The
+/// instruction was decoded, or could have been encoded, at its address.
+///
+/// Errors, in this order: the block would end past the address space of the mode; the instruction cannot reach its target from there. Lack of memory
+/// can occur at any point.
 pub fn step_at(alloc: Global, bits: Bits, item: Placed, place: u64) -> Result<Moved, StandError>
     requires { IsPlaced bits item }
     ensures answer { IsStood bits item place result }
@@ -51,7 +53,8 @@ pub fn step_at(alloc: Global, bits: Bits, item: Placed, place: u64) -> Result<Mo
     }
 }
 
-/// How many bytes are reserved for the block of an instruction: the longest that it may have at a place that stands a multiple of 16 bytes behind `base`.
+/// Returns the number of bytes reserved for the block of an instruction: its maximum length at any address that is a multiple of 16 bytes after
+/// `base`.
 pub fn step_len(bits: Bits, item: Placed, base: u64) -> u64
     requires { IsPlaced bits item }
     ensures value { result ≡ reserved_room bits base item }

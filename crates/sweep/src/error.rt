@@ -17,7 +17,7 @@ pub enum ListError {
     TooLarge { limit: u64 },
 }
 
-/// Why a stream that has lines for instructions alone ends before its input does.
+/// Why a stream whose lines are for instructions only ends before its input does.
 #[derive(Clone, Copy, PartialEq, Eq, Debug, Error)]
 pub enum StreamError {
     /// The source failed.

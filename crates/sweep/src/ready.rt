@@ -16,7 +16,7 @@ use x86_values::Bits;
 /// The most bytes of an instruction (Intel SDM volume 2, 2.3.11).
 const LONGEST: usize = 15;
 
-/// What became of an item.
+/// What happened to an item.
 #[derive(Clone, Copy)]
 pub enum Step {
     /// Its line was written or is held back. It takes so many bytes.

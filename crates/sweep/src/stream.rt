@@ -74,14 +74,24 @@ fn stream_all<S: Source, K: Sink>(
     }
 }
 
-/// Goes through the code of a source, whose first byte has the address `base`, and writes the lines of its items, as far as the command goes on behind
-/// them. The answer is the number of items.
+/// Streams the code of a source, whose first byte has the address `base`, and writes the lines of its items until a command's lines end. Returns the
+/// number of items.
 ///
-/// An item is handled once 15 bytes from its start on were read or the input has ended, and before any byte past 16,777,216 is reported. What was handled
-/// is put to the sink before the source is asked again, each time for at most 16,384 bytes. The first refusal in this order ends the way: `ReadFault` and
-/// `WriteFault` only where that port's count of faults rose, `BadCode` at the first item for which the command has no line, `TooLarge` where the source
-/// gives more than 16,777,216 bytes. A call of a port that fails is the last of all, and behind `BadCode` and `WriteFault` no more was taken than the last
-/// pull gave before which fewer than 15 bytes of that item were seen.
+/// An item is handled once 15 bytes from its start are read or the input has ended, and before any byte past 16,777,216 is reported. The lines are
+/// written to the sink before each further read of at most 16,384 bytes. The first of these refusals ends the stream: `ReadFault` and `WriteFault`,
+/// only if that port's count of faults rose; `BadCode`, at the first item for which the command has no line; `TooLarge`, if the source has more than
+/// 16,777,216 bytes. A failed call of a port is the last call. After `BadCode` and `WriteFault` nothing is read beyond the piece that completed the
+/// 15 bytes of that item.
+///
+/// ```
+/// let mut source = MemSource::new(&FUNCTION);
+/// let mut sink = MemSink::new(rt.alloc(), 4096)?;
+/// let lines = Lines::Listing {
+///     syntax: Style::Intel,
+/// };
+/// let items = stream_lines(Bits::B64, 0x40_1000, lines, &mut source, &mut sink)?;
+/// println!(rt; "{items} items, {} bytes", sink.bytes().len())?; // 5 items, 287 bytes
+/// ```
 pub fn stream_lines<S: Source, K: Sink>(
     bits: Bits,
     base: u64,
@@ -102,10 +112,10 @@ pub fn stream_lines<S: Source, K: Sink>(
     stream_all(bits, base, lines, source, sink)
 }
 
-/// The listing of the code of a source, in a style: [`stream_lines`] with the lines of a listing. It goes on behind every item, so there is no bad code.
+/// Writes the listing of the code of a source in a style, like [`stream_lines`]. It continues after every item, so `BadCode` does not occur.
 ///
-/// `BITS` is the mode, 16, 32 or 64. `TooLarge` where the source gives more than 16,777,216 bytes; `ReadFault` and `WriteFault` only where that port's
-/// count of faults rose.
+/// `BITS` is the mode: 16, 32 or 64. `TooLarge` occurs if the source has more than 16,777,216 bytes; `ReadFault` and `WriteFault` occur only if that
+/// port's count of faults rose.
 pub fn list_stream<const BITS: u32, S: Source, K: Sink>(
     base: u64,
     syntax: Style,
@@ -132,8 +142,8 @@ pub fn list_stream<const BITS: u32, S: Source, K: Sink>(
     }
 }
 
-/// The bytes of the instructions of a source in the mode `to`, where its first byte has the address `new_base`: [`stream_lines`] with the lines of
-/// recoding. `BITS` is the mode that it is read in.
+/// Writes the bytes of the instructions of a source in the mode `to`, with the first byte at the address `new_base`, like [`stream_lines`]. `BITS` is
+/// the mode of the source.
 pub fn recode_stream<const BITS: u32, S: Source, K: Sink>(
     base: u64,
     to: Bits,
@@ -159,7 +169,7 @@ pub fn recode_stream<const BITS: u32, S: Source, K: Sink>(
     )
 }
 
-/// What each instruction of a source does: [`stream_lines`] with the lines of information. `BITS` is the mode.
+/// Writes what each instruction of a source does, like [`stream_lines`]. `BITS` is the mode.
 pub fn info_stream<const BITS: u32, S: Source, K: Sink>(
     base: u64,
     source: &mut S,

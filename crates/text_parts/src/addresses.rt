@@ -12,7 +12,7 @@ use crate::text::append_few;
 use arrayvec::ArrayVec;
 use x86_values::{Bits, DispSize, Mem, Register, Segment, wrap};
 
-/// Whether a base is the instruction pointer.
+/// Returns whether a base is the instruction pointer.
 #[inline]
 #[tactic(auto, unfolding(crate::specs::Addresses::is_instruction_pointer))]
 pub fn is_instruction_pointer(base: Option<Register>) -> bool
@@ -25,7 +25,7 @@ pub fn is_instruction_pointer(base: Option<Register>) -> bool
     }
 }
 
-/// Whether an address has neither base nor index.
+/// Returns whether an address has neither base nor index.
 #[inline]
 pub fn is_absolute(m: &Mem) -> bool
     ensures { result ≡ spec.is_absolute m.now }
@@ -85,7 +85,7 @@ fn append_sign<const N: usize>(out: &mut ArrayVec<u8, N>, style: Style, negative
     }
 }
 
-/// Appends a displacement beside a register, as a signed number of address size.
+/// Appends a displacement next to a register, as a signed number of the address size.
 #[tactic(auto, unfolding(crate::specs::Addresses::signed_displacement))]
 pub fn append_signed_displacement<const N: usize>(
     out: &mut ArrayVec<u8, N>,
@@ -105,7 +105,7 @@ pub fn append_signed_displacement<const N: usize>(
     }
 }
 
-/// Appends a displacement that stands alone, unsigned.
+/// Appends a displacement without a register, unsigned.
 #[tactic(auto, unfolding(crate::specs::Addresses::lone_displacement))]
 pub fn append_lone_displacement<const N: usize>(out: &mut ArrayVec<u8, N>, style: Style, m: &Mem)
     requires { array_vec_len out.old + length (spec.lone_displacement style m.now) ≤ N }
@@ -162,7 +162,7 @@ fn append_joint<const N: usize>(out: &mut ArrayVec<u8, N>, base: Option<Register
     }
 }
 
-/// Appends a scale behind its mark, which 16-bit addressing does not have.
+/// Appends a scale after its sign. 16-bit addressing has none.
 #[tactic(auto, unfolding(crate::specs::Addresses::scale_text))]
 pub fn append_scale<const N: usize>(out: &mut ArrayVec<u8, N>, mark: &[u8], asize: Bits, scale: u8)
     requires { array_vec_len out.old + length (spec.scale_text mark.now asize scale) ≤ N }

@@ -29,7 +29,7 @@ static PAIRS: [[u8; 2]; 256] = [
     *b"fc", *b"fd", *b"fe", *b"ff",
 ];
 
-/// The two hexadecimal digits of a byte, in lower case.
+/// Returns the two hexadecimal digits of a byte, in lower case.
 #[inline]
 pub fn digit_pair(byte: u8) -> [u8; 2]
     ensures { result ≡ spec.digit_pair byte }

@@ -3,7 +3,7 @@
 ghost use Rattle.std.specs.Prelude.{◌≡◌, ◌<◌, ◌≤◌, IfSome, length};
 ghost use Rattle.text_parts.specs.DigitValues as spec;
 
-/// In which case the letters among hexadecimal digits may stand.
+/// The case that letters among hexadecimal digits may have.
 #[derive(Clone, Copy)]
 pub enum LetterCase {
     /// `a` to `f` only.
@@ -29,7 +29,7 @@ fn upper_value(letters: LetterCase, c: u8) -> Option<u8>
     }
 }
 
-/// The value of a hexadecimal digit, 0 to 15, or none where it is no digit.
+/// Returns the value of a hexadecimal digit, 0 to 15, or None for any other byte.
 #[inline]
 #[tactic(auto, unfolding(crate::specs::DigitValues::digit_value))]
 pub fn digit_value(letters: LetterCase, c: u8) -> Option<u8>
@@ -45,7 +45,7 @@ pub fn digit_value(letters: LetterCase, c: u8) -> Option<u8>
     }
 }
 
-/// The number that at most 16 hexadecimal digits name, if all are digits; no digits name 0.
+/// Returns the number that at most 16 hexadecimal digits name, if all of them are digits. No digits name 0.
 #[inline]
 pub fn digits_value(letters: LetterCase, digits: &[u8]) -> Option<u64>
     requires { length digits.now ≤ 16 }

@@ -4,7 +4,7 @@ ghost use Rattle.std.specs.Prelude.{◌≡◌, ℕ, ◌<◌, ◌≤◌, ◌^◌,
 ghost use Rattle.text_parts.specs.declared.style.Style.{Style};
 ghost use Rattle.text_parts.specs.Numbers.{hexadecimal, number};
 
-/// Two numbers of 64 bits with the same digits are one number.
+/// Two 64-bit numbers with the same digits are equal.
 pub fn digits_tell_numbers_apart()
     ensures { (n m : ℕ) → n < 2 ^ 64 → m < 2 ^ 64 → hexadecimal n ≡ hexadecimal m → n ≡ m }
 {}

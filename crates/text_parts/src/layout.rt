@@ -70,7 +70,7 @@ fn append_far_name<const N: usize>(out: &mut ArrayVec<u8, N>, style: Style, size
     }
 }
 
-/// Whether a kind is a far pointer in memory.
+/// Returns whether a kind is a far pointer in memory.
 #[inline]
 #[tactic(auto, unfolding(crate::specs::Layout::is_far_pointer))]
 pub fn is_far_pointer(kind: OpKind) -> bool
@@ -97,7 +97,7 @@ fn append_size_word<const N: usize>(out: &mut ArrayVec<u8, N>, style: Style, row
     }
 }
 
-/// Operand `n`, where it stands.
+/// Returns operand `n` in the order of the text.
 #[inline]
 pub fn operand_at(instr: &Instr, n: usize) -> &Operand
     requires { n < 4 }
@@ -106,7 +106,7 @@ pub fn operand_at(instr: &Instr, n: usize) -> &Operand
     &instr.ops[n]
 }
 
-/// Appends what stands in front of an operand.
+/// Appends the separator before an operand.
 #[inline]
 #[tactic(auto, unfolding(crate::specs::Layout::separator))]
 pub fn append_separator<const N: usize>(out: &mut ArrayVec<u8, N>, first: bool, op: &Operand)
@@ -211,8 +211,7 @@ fn append_short<const N: usize>(
 
 /// Appends the text of an instruction of a row with this name, in a style with brackets.
 ///
-/// At most one operand is memory or a far pointer, and the name has at most 20 bytes: then the
-/// text has at most `TEXT_LEN`.
+/// At most one operand may be memory or a far pointer, and the name has at most 20 bytes. Then the text has at most `TEXT_LEN` bytes.
 #[inline]
 #[tactic(auto, using(crate::proofs::LayoutBounds::layout_bounds))]
 pub fn append_bracket_layout<const N: usize>(

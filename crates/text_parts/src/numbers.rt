@@ -172,7 +172,7 @@ fn append_any<const N: usize>(out: &mut ArrayVec<u8, N>, n: u64)
     }
 }
 
-/// Appends a number in hexadecimal without leading zeros. Most are of one byte, and few of more than three.
+/// Appends a number in hexadecimal without leading zeros. Most numbers have one byte, and few have more than three.
 #[inline]
 pub fn append_hexadecimal<const N: usize>(out: &mut ArrayVec<u8, N>, n: u64)
     requires { array_vec_len out.old + length (spec.hexadecimal n) ≤ N }
@@ -201,7 +201,7 @@ fn leading_zero(n: u64) -> &'static [u8]
     }
 }
 
-/// Appends a number: `0x1f`, in MASM `1fh`.
+/// Appends a number: `0x1f`, or `1fh` in MASM.
 #[inline(never)]
 #[tactic(auto, unfolding(crate::specs::Numbers::number))]
 pub fn append_number<const N: usize>(out: &mut ArrayVec<u8, N>, style: Style, n: u64)

@@ -38,7 +38,7 @@ fn append_repeat_word<const N: usize>(out: &mut ArrayVec<u8, N>, rep: Rep)
     }
 }
 
-/// Whether some operand is memory.
+/// Returns whether some operand is memory.
 pub fn has_memory(instr: &Instr) -> bool
     ensures { result ≡ spec.shows_memory instr.now }
 {
@@ -62,7 +62,7 @@ fn append_segment_word<const N: usize>(out: &mut ArrayVec<u8, N>, instr: &Instr)
     }
 }
 
-/// The digits of a size.
+/// Returns the digits of a size.
 #[inline]
 #[tactic(auto, unfolding(crate::specs::PrefixWords::size_digits))]
 pub fn size_digits(size: Bits) -> &'static [u8]
@@ -96,7 +96,7 @@ fn differs(a: Bits, b: Bits) -> bool
     !same_bits(a, b)
 }
 
-/// The address size of a text: the instruction's, else the mode's.
+/// Returns the address size of a text: that of the instruction, or else that of the mode.
 #[inline]
 pub fn text_address_size(bits: Bits, instr: &Instr) -> Bits
     ensures { result ≡ spec.text_address_size bits instr.now }
@@ -261,7 +261,7 @@ fn counter_jump(asize: Bits) -> &'static [u8]
     }
 }
 
-/// The name of an instruction whose row has this name.
+/// Returns the printed name of an instruction whose row has this name.
 #[tactic(auto, unfolding(crate::specs::PrefixWords::name_text))]
 pub fn name_text<'a>(bits: Bits, name: &'a [u8], instr: &Instr) -> &'a [u8]
     ensures { result.now ≡ spec.name_text bits name.now instr.now }

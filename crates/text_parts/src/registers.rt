@@ -60,7 +60,7 @@ fn high_byte_name(n: u8) -> &'static [u8]
     }
 }
 
-/// The name of a segment register.
+/// Returns the name of a segment register.
 #[inline]
 #[tactic(auto, unfolding(crate::specs::Registers::segment_name))]
 pub fn segment_name(segment: Segment) -> &'static [u8]
@@ -173,7 +173,7 @@ pub fn append_register<const N: usize>(out: &mut ArrayVec<u8, N>, style: Style, 
     append_register_name(out, style, r);
 }
 
-/// Appends a segment override: `fs:`, in AT&T `%fs:`.
+/// Appends a segment override: `fs:`, or `%fs:` in AT&T.
 #[tactic(auto, unfolding(crate::specs::Registers::segment_override))]
 pub fn append_override<const N: usize>(
     out: &mut ArrayVec<u8, N>,
@@ -193,7 +193,7 @@ pub fn append_override<const N: usize>(
     }
 }
 
-/// The text of a register in a style: `rax`, in AT&T `%rax`.
+/// Returns the text of a register in a style: `rax`, or `%rax` in AT&T.
 pub fn register_text(style: Style, r: Register) -> Text
     ensures { result.items ≡ spec.register style r }
 {

@@ -7,13 +7,13 @@ use arrayvec::ArrayVec;
 pub use instruction_parts::append::{append, append_few};
 use std::str::from_utf8;
 
-/// How many bytes the text of an instruction has at most.
+/// The maximum number of bytes of an instruction's text.
 pub const TEXT_LEN: usize = 160;
 
 /// The text of an instruction: ASCII, at most `TEXT_LEN` bytes.
 pub type Text = ArrayVec<u8, TEXT_LEN>;
 
-/// ASCII bytes, such as the text of an instruction, as a `str`.
+/// Converts ASCII bytes, such as the text of an instruction, to a `str`.
 pub fn ascii_str(bytes: &[u8]) -> &str
     requires { IsAscii bytes.now }
     ensures { result.now ≡ bytes.now }

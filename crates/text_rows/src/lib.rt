@@ -20,8 +20,7 @@ use text_parts::style::Style;
 use text_parts::text::TEXT_LEN;
 use x86_values::{Bits, Instr};
 
-/// The row of a well-formed instruction: it is sound, and at most one operand of the instruction
-/// is memory or a far pointer.
+/// Returns the row of a well-formed instruction. The row is sound, and at most one operand of the instruction is memory or a far pointer.
 #[inline]
 pub fn printed_row(instr: &Instr) -> Row
     requires { IsTrue (is_well_formed instr.now) }
@@ -32,7 +31,7 @@ pub fn printed_row(instr: &Instr) -> Row
     row_of(instr.code)
 }
 
-/// The name of a well-formed instruction's row as bytes, at most 20 of them.
+/// Returns the name of a well-formed instruction's row, at most 20 bytes.
 #[inline]
 pub fn printed_name(instr: &Instr) -> &'static [u8]
     requires { IsTrue (is_well_formed instr.now) }
@@ -42,7 +41,8 @@ pub fn printed_name(instr: &Instr) -> &'static [u8]
     name(instr.code).as_bytes()
 }
 
-/// Appends the text of a well-formed instruction in a style with brackets, in a mode: ASCII, at most `TEXT_LEN` bytes, for which there is room.
+/// Appends the text of a well-formed instruction in a style with brackets, in a mode: ASCII, at most `TEXT_LEN` bytes. `out` must have that much
+/// space left.
 #[inline]
 pub fn append_bracket_text<const N: usize>(
     out: &mut ArrayVec<u8, N>,

@@ -25,7 +25,7 @@ fn proper_row(code: Code) -> Row
     row_of(code)
 }
 
-/// The notation of the row of a code below `ROWS`.
+/// Returns the notation of the row of a code below `ROWS`.
 #[tactic(auto, unfolding(crate::specs::RowLines::Lines::notation_at))]
 pub fn notation_of(code: Code) -> ArrayVec<u8, 64>
     requires { code.0 < ROWS }
@@ -34,8 +34,7 @@ pub fn notation_of(code: Code) -> ArrayVec<u8, 64>
     write_notation(&proper_row(code))
 }
 
-/// The line of a code below `ROWS`: the code in decimal, the row's notation and its name, with a space between them and a
-/// line feed behind.
+/// Returns the line of a code below `ROWS`: the code in decimal, the row's notation and its name, separated by spaces and followed by a line feed.
 #[tactic(auto, unfolding(crate::specs::RowLines::Lines::row_line))]
 pub fn row_line(code: Code) -> ArrayVec<u8, 128>
     requires { code.0 < ROWS }

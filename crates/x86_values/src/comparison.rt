@@ -21,7 +21,7 @@ fn same_segment(a: Segment, b: Segment) -> bool
     }
 }
 
-/// Whether two registers are one.
+/// Returns whether two registers are equal.
 #[inline(always)]
 #[tactic(auto, unfolding(crate::specs::Comparing::same_register))]
 pub fn same_register(a: Register, b: Register) -> bool
@@ -127,7 +127,7 @@ fn same_segment_option(a: Option<Segment>, b: Option<Segment>) -> bool
     }
 }
 
-/// Whether two sizes are one.
+/// Returns whether two sizes are equal.
 #[inline]
 pub fn same_bits(a: Bits, b: Bits) -> bool
     ensures value { result ≡ spec.same_bits a b }
@@ -152,7 +152,7 @@ fn same_bits_option(a: Option<Bits>, b: Option<Bits>) -> bool
     }
 }
 
-/// Whether two instructions are the same: all their fields are equal.
+/// Returns whether two instructions are equal in all fields.
 pub fn same(a: &Instr, b: &Instr) -> bool
     ensures { IsTrue result ↔ (a.now ≡ b.now) }
 {

@@ -6,7 +6,7 @@ ghost use Rattle.x86_values.specs.Operands as spec;
 use crate::{Instr, Mem, Operand};
 
 impl Operand {
-    /// Whether the instruction has no such operand.
+    /// Returns whether the operand is absent.
     #[inline]
     pub fn is_absent(&self) -> bool
         ensures { result ≡ spec.is_absent self.now }
@@ -14,7 +14,7 @@ impl Operand {
         matches!(self, Operand::Absent)
     }
 
-    /// Whether the operand is an address.
+    /// Returns whether the operand is memory.
     #[inline]
     pub fn is_memory(&self) -> bool
         ensures { result ≡ spec.is_memory self.now }
@@ -22,7 +22,7 @@ impl Operand {
         matches!(self, Operand::Mem(_))
     }
 
-    /// The address that the operand is, if it is one.
+    /// Returns the memory operand that it is, if it is one.
     pub fn memory(&self) -> Option<Mem>
         ensures { result ≡ spec.memory self.now }
     {
@@ -48,7 +48,7 @@ fn first_address(ops: &[Operand; 4]) -> Option<Operand>
 }
 
 impl Instr {
-    /// How many operands stand in front of the first absent one: 0 to 4.
+    /// Returns the number of operands before the first absent one: 0 to 4.
     ///
     /// In an instruction of the table no operand follows an absent one, so these are all.
     pub fn op_count(&self) -> usize
@@ -57,7 +57,7 @@ impl Instr {
         first_absent(&self.ops).unwrap_or(self.ops.len())
     }
 
-    /// The first operand that is an address; an instruction of the table has at most one.
+    /// Returns the first operand that is memory. An instruction of the table has at most one.
     pub fn memory_operand(&self) -> Option<Mem>
         ensures { result ≡ spec.first_memory self.now.ops }
     {

@@ -280,11 +280,10 @@ impl Register {
 }
 
 impl Register {
-    /// The number of the register in its class, as its variant holds it: 0 for AL, AH, AX, EAX and RAX alike.
+    /// Returns the number of the register in its class: 0 for AL, AH, AX, EAX and RAX alike.
     ///
-    /// A segment register has its encoded number, 0 to 5 for ES, CS, SS, DS, FS and GS. EIP and RIP are the only ones of
-    /// their class and have 0. An instruction writes AH, CH, DH and BH as 4 more than their number (Intel SDM volume 2,
-    /// table 2-2).
+    /// A segment register has its encoded number, 0 to 5 for ES, CS, SS, DS, FS and GS. EIP and RIP are the only ones of their class and have 0. An
+    /// instruction encodes AH, CH, DH and BH as 4 more than their number (Intel SDM volume 2, table 2-2).
     pub const fn number(self) -> u8
         ensures { result ≡ spec.number self }
     {
@@ -305,7 +304,7 @@ impl Register {
         }
     }
 
-    /// Whether there is such a register: its number is below the size of its class, which is 4 for the high byte registers, 8 for the stack, MMX and
+    /// Returns whether the register exists: its number is below the size of its class, which is 4 for the high byte registers, 8 for x87, MMX and
     /// debug registers, and 16 for all others.
     #[inline]
     #[tactic(auto, unfolding(crate::specs::Named::is_named))]
@@ -322,10 +321,10 @@ impl Register {
         }
     }
 
-    /// How many bytes the register holds: 1 to 32, and 10 for a register of the x87 stack.
+    /// Returns the size of the register in bytes: 1 to 32, and 10 for an x87 register.
     ///
-    /// A control or debug register counts with its 8 bytes of 64-bit mode (Intel SDM volume 2, 2.2.1.6); it holds 4 in
-    /// the other modes. A segment register counts with the 2 bytes of its selector.
+    /// A control or debug register has 8, as in 64-bit mode (Intel SDM volume 2, 2.2.1.6); in the other modes it holds 4. A segment register has the
+    /// 2 bytes of its selector.
     pub const fn size(self) -> usize
         ensures { result ≡ spec.size self }
     {

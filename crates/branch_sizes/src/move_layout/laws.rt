@@ -2,7 +2,7 @@
 
 ghost use Rattle.branch_sizes.specs.MoveLayout.Facts.{EndFacts, SlotFacts};
 
-/// A block ends behind its slots, which stand at a multiple of 8 behind its images; without slots it ends where its images do.
+/// A block ends after its slots, which start at a multiple of 8 after its images. Without slots it ends with its images.
 #[inline]
 pub fn blocks_end_behind_their_slots()
     ensures { EndFacts }
@@ -11,7 +11,7 @@ pub fn blocks_end_behind_their_slots()
     crate::laws::totals_rise();
 }
 
-/// Each far form has a slot of its block with its goal, and there are no more slots than items.
+/// Each item of a far form has a slot of its block that holds its goal. There are no more slots than items.
 #[inline]
 pub fn far_forms_have_slots()
     ensures { SlotFacts }

@@ -13,7 +13,7 @@ use crate::{Form, LayoutError, Plan, Reach, least_choices};
 use std::alloc::{AllocError, Global};
 use std::collections::BTreeMap;
 
-/// A piece of moved code, as an assembler lays it out: where an item stands, and what it is aimed at. Addresses are whole numbers that do not wrap.
+/// A piece of moved code as an assembler lays it out: the place of an item, and its goal. Addresses are whole numbers and do not wrap.
 #[derive(Clone, Copy, PartialEq, Eq, Debug)]
 pub struct Fragment {
     /// The form that it takes.
@@ -30,7 +30,7 @@ pub struct Fragment {
     pub slot: u128,
 }
 
-/// Where a block ends.
+/// The end of a block.
 #[derive(Clone, Copy, PartialEq, Eq, Debug)]
 pub struct BlockEnd {
     /// The address behind its images.
@@ -41,7 +41,7 @@ pub struct BlockEnd {
     pub end: u128,
 }
 
-/// A layout: of each item where it stands, of each block where it ends, and the goals in the slots of all blocks in order.
+/// A layout: the place of each item, the end of each block, and the goals in the slots of all blocks in order.
 #[derive(Drop)]
 pub struct Layout {
     pub fragments: Vec<Fragment>,
@@ -135,7 +135,7 @@ fn lay_blocks(alloc: Global, tables: &Tables) -> Result<Layout, AllocError>
     })
 }
 
-/// The least layout of a plan. The only refusal is lack of memory.
+/// Returns the least layout of a plan. The only error is lack of memory.
 pub fn lay_out(alloc: Global, plan: &Plan) -> Result<Layout, LayoutError>
     ensures { IfOk result (λ laid. spec.IsLaidLeast plan.now laid) }
 {

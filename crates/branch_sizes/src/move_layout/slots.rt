@@ -8,14 +8,14 @@ use crate::Form;
 use std::alloc::AllocError;
 use std::collections::BTreeMap;
 
-/// Whether a form goes through a slot.
+/// Returns whether a form goes through a slot.
 pub fn is_far_form(form: Form) -> bool
     ensures { result ≡ has_far_form form }
 {
     matches!(form, Form::Far | Form::FarBridge)
 }
 
-/// The next multiple of 8.
+/// Returns the least multiple of 8 that is not below a number.
 pub fn next_multiple_of_8(n: u128) -> u128
     requires { n < 2 ^ 67 }
     ensures value { result ≡ next_eighth n }
@@ -24,7 +24,7 @@ pub fn next_multiple_of_8(n: u128) -> u128
     (n + 7) / 8 * 8
 }
 
-/// The end of a block: that of its images, or that of its slots, which begin at `start`, where it has some.
+/// Returns the end of a block: the end of its slots, which begin at `start`, or the end of its images if it has no slots.
 pub fn block_end(images: u128, start: u128, count: usize) -> u128
     requires { start < 2 ^ 68 }
     ensures { result ≡ (if count == 0 then images else start + 8 * count) }

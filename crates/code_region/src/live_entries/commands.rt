@@ -5,7 +5,7 @@ ghost use Rattle.code_region.specs.LiveEntries.Running.{IsRun};
 
 use std::alloc::Global;
 
-/// What does commands of a type, each with a reply.
+/// Executes commands of one type, each with a reply.
 pub trait Executor<C, R> {
     /// It can do the command.
     ghost is_fit: { Self → C → Type 0 };
@@ -22,7 +22,7 @@ pub trait Executor<C, R> {
     ghost stays_fit: { (a : Self) (c : C) (r : R) (b : Self) (other : C) → is_done a c r b → is_fit a other → is_fit b other };
 }
 
-/// Does these commands, in order, and writes the reply to each.
+/// Executes commands in order, and writes the reply to each.
 pub fn run_commands<T: Executor<C, R>, C: Copy, R: Drop>(
     on: &mut T,
     alloc: Global,

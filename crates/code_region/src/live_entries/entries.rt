@@ -3,7 +3,7 @@
 ghost use Rattle.std.specs.Prelude.{◌≡◌, ℕ};
 ghost use Rattle.code_region.specs.State.{LiveBlock};
 
-/// What its user keeps for a live block of a region.
+/// What a client keeps for each live block of a region.
 pub trait LiveEntry {
     /// What its block depends on beside the entry.
     ghost Setting: { Type 0 };

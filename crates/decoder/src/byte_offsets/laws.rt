@@ -7,7 +7,7 @@ ghost use Rattle.decoder.specs.ByteOffsets.Offsets.{AreOffsets};
 
 use crate::laws::spellings_are_unique;
 
-/// Some bytes have one answer of offsets.
+/// Some bytes have at most one correct answer of `offsets`.
 pub fn offsets_are_unique()
     ensures { (bits : Bits) (ip : ℕ) (bytes : List ℕ) (offsets others : ByteOffsets)
         → AreOffsets bits ip bytes offsets → AreOffsets bits ip bytes others → offsets ≡ others }

@@ -8,15 +8,15 @@ use instruction_parts::row_types::Row;
 use row_fit::tail_fits::{immediate_bytes, kind_at};
 use x86_values::Bits;
 
-/// A part of an instruction: the offset of its first byte from the first one of the instruction, and how many bytes it has. A part that is not
-/// there has none, and the offset at which it would stand.
+/// A part of an instruction: the offset of its first byte within the instruction, and its length in bytes. An absent part has length 0 and the offset
+/// at which it would lie.
 #[derive(Clone, Copy, PartialEq, Eq, Debug)]
 pub struct Part {
     pub at: u8,
     pub len: u8,
 }
 
-/// Where the parts of an instruction stand in its bytes, in their order (2.1, figure 2-1).
+/// The parts of an instruction in its bytes, in order (Intel SDM volume 2, 2.1, figure 2-1).
 #[derive(Clone, Copy, PartialEq, Eq, Debug)]
 pub struct ByteOffsets {
     /// The legacy prefixes and the REX.

@@ -50,10 +50,18 @@ fn offsets_read(bits: Bits, ip: u64, bytes: &[u8], decoded: &Decoded) -> ByteOff
     offsets_by(lengths, state_size(bits, &row, &state), &row)
 }
 
-/// Where the parts of the instruction at the front of some bytes stand. `ip` is the address of the first byte; only what the instruction means depends on it, not
-/// where its parts stand.
+/// Returns where the parts of the instruction at the front of some bytes lie.
 ///
-/// The answer is an error exactly where none is read: that of [`decode_in`].
+/// `ip` is the address of the first byte. It affects what the instruction means, not where its parts lie.
+///
+/// Errors are those of [`decode_in`].
+///
+/// ```
+/// let mov = b"\x48\xc7\x40\x08\x01\x00\x00\x00"; // mov qword [rax+0x8], 0x1
+/// let parts = offsets(Bits::B64, 0x40_1000, mov)?;
+/// println!(rt; "{:?}", parts.displacement)?; // Part { at: 3, len: 1 }
+/// println!(rt; "{:?}", parts.immediates[1])?; // Part { at: 4, len: 4 }
+/// ```
 pub fn offsets(bits: Bits, ip: u64, bytes: &[u8]) -> Result<ByteOffsets, DecodeError>
     ensures { IsOffsetsAnswer bits ip bytes.now result }
 {

@@ -11,7 +11,7 @@ use code_region::NotTaken;
 use code_region::live_entries::{Executor, run_commands};
 use std::alloc::Global;
 
-/// One command to hooks.
+/// A command to a set of hooks.
 #[derive(Clone, Copy)]
 pub enum HookCommand<'a> {
     /// Hook the function at `ip`, as [`Hooks::install`] does.
@@ -27,7 +27,7 @@ pub enum HookCommand<'a> {
     },
 }
 
-/// The reply to one command.
+/// The reply to a command.
 #[derive(Clone, Copy, PartialEq, Eq, Debug)]
 pub enum HookReply {
     /// The function is hooked, with its trampoline at `place`.
@@ -80,9 +80,9 @@ impl<'a> Executor<HookCommand<'a>, HookReply> for Hooks {
     ghost stays_fit = { λ old command reply new other done fit. fit };
 }
 
-/// Does these commands, in order, and writes the reply to each.
+/// Executes commands in order, and writes the reply to each.
 ///
-/// There is room for as many replies as there are commands, and each function has at most 1,048,576 bytes.
+/// `replies` must be as long as `commands`, and each function has at most 1,048,576 bytes.
 pub fn replay(
     hooks: &mut Hooks,
     alloc: Global,

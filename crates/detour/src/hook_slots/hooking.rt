@@ -27,8 +27,16 @@ const MAX_SIZE: u64 = 1_048_576;
 
 /// Hooks of functions, with their trampolines in a fixed range of addresses.
 ///
-/// The range has slots of one size, from its first byte on. Each live hook has the first slot that was free, and in it the trampoline of its detour at that
-/// place. Every other byte is CC (INT3). Nothing is written to the functions: who uses this writes the range ([`image`](Hooks::image)) and the patches.
+/// The range is divided into slots of one size. Each live hook takes the first free slot, which holds the trampoline of its detour. Every other byte
+/// is CC (INT3). These calls write nothing to memory outside: the caller writes the range ([`image`](Hooks::image)) and the patches.
+///
+/// ```
+/// let mut hooks = Hooks::make(rt.alloc(), Bits::B64, 0x60_0000, 4096, 64)?;
+/// let (ip, to) = (0x40_1000, 0x50_0000);
+/// let trampoline = hooks.install(rt.alloc(), ip, &FUNCTION, to, StartTarget::Moved)?;
+/// println!(rt; "{trampoline:x} {}", hooks.live().len())?; // 600000 1
+/// hooks.remove(trampoline)?;
+/// ```
 #[derive(Drop)]
 pub struct Hooks {
     bits: Bits,
@@ -68,11 +76,11 @@ fn refusal_of(bits: Bits, base: u64, size: u64, slot: u64) -> Option<MakeError>
 }
 
 impl Hooks {
-    /// Makes hooks of a mode whose trampolines stand in `size` bytes from the address `base` on, in slots of `slot` bytes, and none yet. There are
-    /// `size / slot` of them. It takes all memory for them.
+    /// Makes an empty set of hooks for a mode. The trampolines lie in `size` bytes at the address `base`, in `size / slot` slots of `slot` bytes
+    /// each. It allocates all memory for them.
     ///
-    /// Refused, in this order: a size that is 0, no multiple of 16 or above 1,048,576; a slot that is 0, no multiple of 16 or above the size; a range that
-    /// ends behind the address space of the mode; and at any point where there is no memory.
+    /// Errors, in this order: the size is 0, not a multiple of 16, or above 1,048,576; the slot size is 0, not a multiple of 16, or above the size;
+    /// the range ends past the address space of the mode. Lack of memory can occur at any point.
     pub fn make(
         alloc: Global,
         bits: Bits,
@@ -103,25 +111,27 @@ impl Hooks {
         })
     }
 
-    /// The mode of the hooks.
+    /// Returns the mode of the hooks.
     pub fn bits(&self) -> Bits
         ensures { result ≡ self.now.bits }
     {
         self.bits
     }
 
-    /// The size of a slot, in bytes.
+    /// Returns the size of a slot in bytes.
     pub fn slot(&self) -> u64
         ensures { result ≡ self.now.slot }
     {
         self.slot
     }
 
-    /// Hooks a function, and answers the address of its trampoline, by which the hook is known.
+    /// Hooks a function, and returns the address of its trampoline, which identifies the hook.
     ///
-    /// `code` is the function's bytes from its first one on, which has the address `ip`; `to` is the address of the replacement. The detour is that of
-    /// [`detour`](crate::detour) with its trampoline at the place of the first free slot. Refused, in this order and with nothing changed: where each slot
-    /// has a hook; where there is no such detour, for its cause; where its trampoline has more bytes than a slot; and at any point where there is no memory.
+    /// `code` is the function, from its first byte, whose address is `ip`. `to` is the address of the replacement. The detour is that of
+    /// [`detour`](crate::detour), with its trampoline in the first free slot.
+    ///
+    /// Errors, in this order; each leaves the hooks unchanged: every slot is taken; there is no detour, for its cause; the trampoline is longer than
+    /// a slot. Lack of memory can occur at any point.
     pub fn install(
         &mut self,
         alloc: Global,
@@ -149,9 +159,9 @@ impl Hooks {
         Ok(place)
     }
 
-    /// Ends the live hook whose trampoline starts at `place`, sets its bytes to CC, and answers the hook, with the function's own bytes.
+    /// Removes the live hook whose trampoline starts at `place`, sets its bytes to CC, and returns the hook with the function's original bytes.
     ///
-    /// Refused, with nothing changed, exactly where no trampoline of a live hook starts there.
+    /// Fails exactly if no live trampoline starts there, and then changes nothing.
     pub fn remove(&mut self, place: u64) -> Result<Hook, NotTaken>
         ensures answer { result ≡ remove_answer self.old place }
         ensures state { self.new ≡ after_removal self.old place }
@@ -164,7 +174,7 @@ impl Hooks {
         }
     }
 
-    /// The live hooks, by the addresses of their trampolines.
+    /// Returns the live hooks, in the order of their trampolines' addresses.
     pub fn live(&self) -> &[Hook]
         ensures hooks { result.now ≡ self.now.hooks }
         ensures apart { HooksAreApart self.now }
@@ -174,7 +184,7 @@ impl Hooks {
         &self.live
     }
 
-    /// The bytes of the range: the trampolines of the live hooks, and CC elsewhere.
+    /// Returns the bytes of the range: the trampolines of the live hooks, and CC elsewhere.
     pub fn image(&self) -> &[u8]
         ensures value { result.now ≡ region_image self.now.region }
         ensures hooks { HoldsHooks self.now result.now }

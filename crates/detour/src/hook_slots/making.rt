@@ -14,7 +14,7 @@ use code_region::{PlaceError, Region};
 use std::alloc::{AllocError, Global};
 use x86_values::Bits;
 
-/// A hook: the function at `ip` comes to the replacement at `to`, and does what it did from the trampoline at `place` on.
+/// A hook: calls of the function at `ip` go to the replacement at `to`, and the trampoline at `place` does what the function did.
 #[derive(Drop)]
 pub struct Hook {
     /// The address of the trampoline.

@@ -3,7 +3,7 @@
 use crate::DetourError;
 use thiserror::Error;
 
-/// Why no hooks are made.
+/// Why a set of hooks is not made.
 #[derive(Clone, Copy, PartialEq, Eq, Debug, Error)]
 pub enum MakeError {
     /// The size of the range in bytes is 0, no multiple of 16, or above 1,048,576.

@@ -13,14 +13,15 @@ use sweep::run_parts::laws::told_bytes_are_read;
 use sweep::run_parts::{Status, put_all, read_whole};
 use x86_values::Bits;
 
-/// Reads the source to its end, as lines of code of a mode whose first byte has the address `base`, and writes the bytes of all lines.
+/// Reads the source to its end as lines of code, and writes the bytes of all lines.
 ///
-/// Each line is ended by a line feed; bytes behind the last one are one more line. A line is the Intel text of an instruction, which follows the bytes
-/// of the lines before it, at an address that wraps in the mode; or `db` and the number of a single byte, as `db 0x66`.
+/// A line feed ends each line; bytes after the last one are one more line. A line is the Intel text of an instruction, or `db` and the number of a
+/// single byte, such as `db 0x66`. The first line has the address `base`, and each further line the address at which the bytes of the previous lines
+/// end; addresses wrap in the mode.
 ///
-/// In this order: `ReadFault`, `TooLarge` above 1,048,576 bytes, `BadText` at the first line that is neither, `WriteFault`; `Memory` at any point before
-/// something is written. Nothing is written before all but `WriteFault` are past. At most 1,048,577 bytes are taken, and after `ReadFault` the source is not
-/// asked again.
+/// Statuses, in this order: `ReadFault`; `TooLarge` above 1,048,576 bytes; `BadText` for the first line that is neither; `WriteFault`. `Memory` can
+/// occur at any point before the first write. Nothing is written unless only `WriteFault` can still occur. At most 1,048,577 bytes are read, and
+/// nothing after `ReadFault`.
 #[tactic(auto, unfolding(sweep::specs::RunParts::Reads::whole_limit))]
 pub fn assemble_code<S: Source, K: Sink>(
     alloc: Global,

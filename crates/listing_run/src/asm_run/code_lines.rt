@@ -25,8 +25,8 @@ fn first_line(bytes: &[u8]) -> (&[u8], &[u8])
     bytes.split_at(bytes.len())
 }
 
-/// The bytes of the lines of a text, whose first byte has the address `base`, or the status that tells the first line that is neither the text of an
-/// instruction nor a single byte, or that there was not enough memory.
+/// Returns the bytes of the lines of a text whose first byte has the address `base`, or the status: the first line that is neither the text of an
+/// instruction nor a single byte, or lack of memory.
 pub fn code_of_lines(alloc: Global, bits: Bits, base: u64, input: &[u8]) -> Result<Vec<u8>, Status>
     requires short { length input.now ≤ 1048576 }
     ensures code { IfOk result (λ code. IsCodeOf bits base input.now code.items) }

@@ -57,7 +57,7 @@ fn one(byte: u8) -> ArrayVec<u8, 15>
     bytes
 }
 
-/// The bytes that a line stands for at an address of the mode: the text of an instruction, or a single byte.
+/// Returns the bytes that a line stands for at an address of the mode: those of an instruction's text, or a single byte.
 pub fn code_of_line(bits: Bits, ip: u64, line: &[u8]) -> Option<ArrayVec<u8, 15>>
     ensures { MatchOption result ((bytes : List ℕ) → IsCodeOfLine bits ip line.now bytes → ⊥) (λ code. IsCodeOfLine bits ip line.now code.items) }
 {

@@ -4,7 +4,7 @@ ghost use Rattle.listing_run.specs.AsmRun.Facts.{AssemblyAnswerFacts};
 
 use opcode_rows::laws::rows_are_counted;
 
-/// A text has one answer: its bytes, or the number of its first bad line.
+/// A text has exactly one answer: its bytes, or the number of its first bad line.
 #[inline]
 pub fn texts_have_one_answer()
     ensures { AssemblyAnswerFacts }

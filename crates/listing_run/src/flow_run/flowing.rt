@@ -13,12 +13,12 @@ use sweep::run_parts::laws::told_bytes_are_read;
 use sweep::run_parts::{Status, read_whole};
 use x86_values::Bits;
 
-/// Reads the source to its end, as code of a mode whose first byte has the address `base`, and writes a line for each offset that control reaches from the
-/// first byte, in ascending order: its address, the address of the leader of its basic block, and the flow of its instruction, or `invalid` or `too short`
-/// where none is read.
+/// Reads the source to its end as code whose first byte has the address `base`, and writes a line for each offset that control reaches from the first
+/// byte, in ascending order. A line has the address, the address of the leader of its basic block, and the flow of the instruction, or `invalid` or
+/// `too short` if none starts there.
 ///
-/// In this order: `ReadFault`, `TooLarge` above 1,048,576 bytes, `WriteFault`; `Memory` at any point before something is written. Nothing is written before
-/// all but `WriteFault` are past. At most 1,048,577 bytes are taken, and after `ReadFault` the source is not asked again.
+/// Statuses, in this order: `ReadFault`; `TooLarge` above 1,048,576 bytes; `WriteFault`. `Memory` can occur at any point before the first write.
+/// Nothing is written unless only `WriteFault` can still occur. At most 1,048,577 bytes are read, and nothing after `ReadFault`.
 #[tactic(auto, unfolding(sweep::specs::RunParts::Reads::whole_limit))]
 pub fn flow_code<S: Source, K: Sink>(
     alloc: Global,

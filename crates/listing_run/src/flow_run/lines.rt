@@ -80,7 +80,7 @@ fn write_flow_line<K: Sink>(
     Ok(())
 }
 
-/// Writes a line for each offset of a graph: its address, that of its leader, and the flow of its instruction or why none is read.
+/// Writes a line for each offset of a graph: its address, the address of its leader, and the flow of its instruction or why none starts there.
 pub fn write_flow<K: Sink>(
     bits: Bits,
     base: u64,

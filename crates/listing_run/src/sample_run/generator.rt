@@ -49,7 +49,7 @@ fn append_instruction(code: &mut Vec<u8>, drawn: u64) -> Result<(), AllocError>
     }
 }
 
-/// The bytes of `count` instructions that the generator draws from the state `count` on.
+/// Returns the bytes of `count` instructions that the generator draws, starting from the state `count`.
 #[tactic(auto, unfolding(crate::specs::SampleRun::Generator::drawn_number, crate::specs::SampleRun::Generator::sample_code))]
 pub fn sample_code(alloc: Global, count: u32) -> Result<Vec<u8>, AllocError>
     ensures { IfOk result (λ code. code.items ≡ spec.sample_code count) }

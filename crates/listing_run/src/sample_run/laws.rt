@@ -13,13 +13,12 @@ use move_goals::laws::{first_numbers_pass, plans_are_well_formed};
 use moving_run::laws::{inputs_are_read_in_one_way, instructions_are_placed};
 use sweep::sweep_text::laws::sweeps_agree;
 
-/// Made code is read as the instructions that were drawn, each with its bytes: nothing else stands in it, and what is aimed at an address by RIP is aimed
-/// at a low one.
+/// Made code decodes to exactly the drawn instructions, each with its bytes, and each of their RIP operands has a low address.
 pub fn made_code_has_instructions_alone()
     ensures { (n : ℕ) → n ≤ 65536 → HasInstructions n }
 {}
 
-/// So many instructions have the same six lines, whenever and wherever they are made.
+/// The same number of instructions always gives the same six lines.
 pub fn samples_have_one_text()
     ensures { (n : ℕ) (s t : Summary) → IsSample n s → IsSample n t → summary_text s ≡ summary_text t }
 {
@@ -27,7 +26,8 @@ pub fn samples_have_one_text()
     sweeps_agree();
 }
 
-/// The moving of made code is refused for lack of memory alone: each of its instructions is aimed low, and reaches its target from its new place.
+/// Moving made code can fail only for lack of memory: the targets of its instructions are low, and each instruction reaches its target from its new
+/// place.
 #[inline]
 pub fn made_code_reaches_its_targets()
     ensures { MadeFacts }

@@ -24,7 +24,7 @@ fn append_line<I: Integer>(text: &mut SummaryText, word: &[u8], number: I)
     append(text, b"\n");
 }
 
-/// The lines of a summary.
+/// Returns the lines of a summary.
 #[tactic(auto, unfolding(crate::specs::SampleRun::Sample::summary_text))]
 pub fn summary_text(summary: &Summary) -> SummaryText
     ensures { result.items ≡ spec.summary_text summary.now }

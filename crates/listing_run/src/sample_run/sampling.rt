@@ -10,8 +10,8 @@ use byte_ports::Sink;
 use std::alloc::Global;
 use sweep::run_parts::{Status, put_all};
 
-/// Makes some instructions, lists and moves them, and writes what comes of it: six lines. It answers `Memory` before it writes anything, or `WriteFault`, and no
-/// other refusal.
+/// Makes some instructions, lists and moves them, and writes six lines about the result. The only statuses besides `Done` are `Memory`, before the
+/// first write, and `WriteFault`.
 pub fn sample<K: Sink>(alloc: Global, count: u32, out: &mut K) -> Status
     requires { count ≤ 65536 }
     ensures answer { SamplesAs count (K.held out.old) (K.held out.new) (Rose (K.faults out.old) (K.faults out.new)) result }

@@ -22,10 +22,10 @@ use sweep::sweep_text::laws::items_stand_in_turn;
 use sweep::sweep_text::{Chunk, Lines, Style, append_line, item_len, read_at};
 use x86_values::{Bits, Instr};
 
-/// The address that made code is moved to.
+/// The address to which made code is moved.
 pub const MOVED_BASE: u64 = 0x1040_0000;
 
-/// What the command states of made code.
+/// The numbers that `sample` reports about made code.
 #[derive(Clone, Copy)]
 pub struct Summary {
     /// How many instructions were made.
@@ -101,8 +101,8 @@ fn sum_of(bytes: &[u8]) -> u128
     sum
 }
 
-/// Makes some instructions, lists them in the Intel style at 400000 and moves them to 10400000 in 64-bit mode, and answers what comes of it. It may lack
-/// memory, and nothing else hinders it: made code has instructions alone, and each reaches its target from its new place.
+/// Makes some instructions, lists them in the Intel style at 400000, moves them to 10400000 in 64-bit mode, and returns numbers about the result. It
+/// can fail only for lack of memory: made code consists of instructions, and each reaches its target from its new place.
 pub fn summarize(alloc: Global, count: u32) -> Result<Summary, Status>
     requires { count ≤ 65536 }
     ensures { MatchResult result (λ s. spec.IsSample count s) (λ status. status ≡ Status.Memory) }

@@ -93,7 +93,8 @@ fn branch_in(row: &Row) -> Option<RelativeBranch>
     }
 }
 
-/// The relative branch that an instruction is: JMP, CALL, Jcc, LOOP and its kin, with an offset as the operand. None where it is none.
+/// Returns the relative branch that an instruction is: JMP, CALL, Jcc, LOOP and its variants, JCXZ and its variants, with a code offset as the
+/// operand. Returns None for any other instruction.
 #[tactic(auto, unfolding(crate::specs::BranchForms::Branches::branch_of))]
 pub fn branch_of(instr: &Instr) -> Option<RelativeBranch>
     ensures { result ≡ spec.branch_of instr.now }
@@ -121,7 +122,7 @@ fn size_number(size: Bits) -> u16
     }
 }
 
-/// The code of the branch with an offset of 8 bits. A CALL has none, and its own code stands for it.
+/// Returns the code of the branch with an 8-bit offset. A CALL has none; the result is its own code.
 #[tactic(auto, unfolding(crate::specs::BranchForms::Branches::short_code))]
 pub fn short_code(action: Action, size: Bits) -> u16
     ensures { result ≡ spec.short_code action size }
@@ -134,7 +135,7 @@ pub fn short_code(action: Action, size: Bits) -> u16
     }
 }
 
-/// The code of the branch with an offset of 16 or 32 bits. A branch on a counter has none, and that of JMP stands for it.
+/// Returns the code of the branch with a 16 or 32-bit offset. A branch on a counter has none; the result is that of JMP.
 #[tactic(auto, unfolding(crate::specs::BranchForms::Branches::near_code))]
 pub fn near_code(action: Action, size: Bits) -> u16
     ensures { result ≡ spec.near_code action size }
@@ -147,7 +148,7 @@ pub fn near_code(action: Action, size: Bits) -> u16
     }
 }
 
-/// The code of CALL or JMP through memory in 64-bit mode.
+/// Returns the code of CALL or JMP through memory in 64-bit mode.
 #[tactic(auto, unfolding(crate::specs::BranchForms::Branches::far_code))]
 pub fn far_code(action: Action) -> u16
     ensures { result ≡ spec.far_code action }
@@ -158,7 +159,7 @@ pub fn far_code(action: Action) -> u16
     }
 }
 
-/// The other condition: the lowest bit of its number changes.
+/// Returns the opposite condition, whose number differs in the lowest bit.
 #[tactic(auto, unfolding(crate::specs::BranchForms::Branches::opposite_condition))]
 pub fn opposite_condition(condition: u8) -> u8
     ensures { result ≡ spec.opposite_condition condition }

@@ -149,7 +149,7 @@ fn own_choice(bits: Bits, instr: &Instr) -> ArrayVec<Choice, 3>
     alone(plain_length(bits, instr))
 }
 
-/// The forms of an instruction without a target, whose plain spelling has this many bytes.
+/// Returns the forms of an instruction without a target whose plain spelling has this many bytes.
 pub fn choices_without_target(bits: Bits, instr: &Instr, len: u8) -> ArrayVec<Choice, 3>
     requires untargeted { target_of instr.now ≡ None }
     requires len { len ≡ plain_length bits instr.now }
@@ -159,8 +159,8 @@ pub fn choices_without_target(bits: Bits, instr: &Instr, len: u8) -> ArrayVec<Ch
     alone(len)
 }
 
-/// The forms that an instruction may take at a new place, from the first to the last, with their lengths in bytes and what they reach. What is no
-/// relative branch has one.
+/// Returns the forms that an instruction can take at a new place, from the first to the last, with their lengths in bytes and what they reach. An
+/// instruction that is no relative branch has one form.
 #[tactic(auto, unfolding(crate::specs::BranchForms::Choices::choices_of))]
 pub fn choices_of(bits: Bits, instr: &Instr) -> ArrayVec<Choice, 3>
     ensures { result.items ≡ spec.choices_of bits instr.now }

@@ -34,7 +34,7 @@ fn bare(code: u16, asize: Option<Bits>, operand: Operand) -> Instr
     }
 }
 
-/// A relative branch.
+/// Returns a relative branch to a target.
 #[tactic(auto, unfolding(crate::specs::BranchForms::Images::branch_to))]
 pub fn branch_to(code: u16, asize: Option<Bits>, target: u64) -> Instr
     ensures { result ≡ spec.branch_to code asize target }
@@ -42,7 +42,7 @@ pub fn branch_to(code: u16, asize: Option<Bits>, target: u64) -> Instr
     bare(code, asize, Operand::Near(target))
 }
 
-/// CALL or JMP through the slot at an address, relative to RIP.
+/// Returns CALL or JMP through the slot at an address, relative to RIP.
 #[tactic(auto, unfolding(crate::specs::BranchForms::Images::through_slot))]
 pub fn through_slot(code: u16, slot: u64) -> Instr
     ensures { result ≡ spec.through_slot code slot }
@@ -93,7 +93,7 @@ fn bridge_jump(branch: RelativeBranch, target: u64) -> Instr
     branch_to(near_code(Action::Jump, branch.size), None, target)
 }
 
-/// How many bytes of a bridge precede its near jump: the branch, and the short jump over what follows.
+/// Returns the number of bytes before the near jump of a bridge: the branch, and the short jump over what follows.
 #[tactic(auto, unfolding(crate::specs::BranchForms::Images::bridge_inner))]
 pub fn bridge_inner(bits: Bits, branch: RelativeBranch, asize: Option<Bits>) -> u8
     ensures value { result ≡ spec.bridge_inner bits branch asize }
@@ -169,7 +169,8 @@ fn branch_image(
     }
 }
 
-/// The image of an instruction in the short form, aimed at a goal: one instruction, wherever it stands. What is no relative branch is its own image.
+/// Returns the image of an instruction in the short form with a goal. It is one instruction at every place. An instruction that is no relative branch
+/// is its own image.
 pub fn short_image(instr: &Instr, goal: u64) -> Instr
     ensures { (bits : Bits) (place slot : ℕ) → spec.image_of bits instr.now Short place goal slot ≡ result ∷ [] }
 {
@@ -179,7 +180,7 @@ pub fn short_image(instr: &Instr, goal: u64) -> Instr
     }
 }
 
-/// The image of an instruction in the near form, as [`short_image`] is that in the short one.
+/// Returns the image of an instruction in the near form with a goal, like [`short_image`] for the short form.
 pub fn near_image(instr: &Instr, goal: u64) -> Instr
     ensures { (bits : Bits) (place slot : ℕ) → spec.image_of bits instr.now Near place goal slot ≡ result ∷ [] }
 {
@@ -189,9 +190,9 @@ pub fn near_image(instr: &Instr, goal: u64) -> Instr
     }
 }
 
-/// The image of an instruction in a form at a place, aimed at a goal; a far form goes through the slot of 8 bytes at an address.
+/// Returns the image of an instruction in a form at a place, with a goal. A far form goes through the 8-byte slot at an address.
 ///
-/// `form` is one of those of its choices. A branch keeps no segment and repeat prefix.
+/// `form` must be one of the instruction's choices. A branch keeps no segment and no repeat prefix.
 #[tactic(auto, unfolding(crate::specs::BranchForms::Images::image_of))]
 pub fn image_of(bits: Bits, instr: &Instr, form: Form, place: u64, goal: u64, slot: u64) -> Image
     ensures { spec.instrs_of result ≡ spec.image_of bits instr.now form place goal slot }

@@ -22,7 +22,8 @@ ghost use Rattle.move_goals.specs.BranchForms.Facts.{CodeFacts, PieceFacts, Form
 
 use crate::branch_forms::laws_below::laws_below;
 
-/// The choices of an instruction that is spelled at some address are one to three, of forms that differ, with lengths of 1 to 15 that do not fall.
+/// An instruction that has a spelling at some address has one to three choices. Their forms differ, their lengths are 1 to 15 bytes, and the lengths
+/// do not fall.
 pub fn choices_are_fit()
     ensures { (bits : Bits) (ip : ℕ) (bytes : List ℕ) (i : Instr) → length i.ops ≡ 4 → Spells table bits ip bytes i
         → (0 < length (choices_of bits i)) × (length (choices_of bits i) ≤ 3)
@@ -32,15 +33,15 @@ pub fn choices_are_fit()
     laws_below();
 }
 
-/// The length of an image rests neither on its place nor on its goal.
+/// The length of an image depends neither on its place nor on its goal.
 pub fn images_have_their_length()
     ensures { (bits : Bits) (i : Instr) (form : Form) (place goal slot : ℕ) → pieces_length bits (image_of bits i form place goal slot) ≡ form_length bits i form }
 {
     laws_below();
 }
 
-/// The codes of JMP, CALL, Jcc and the branches on a counter are those of their rows: EB, 70 to 7F and E0 to E3 with an offset of 8 bits, E9, E8 and
-/// 0F 80 to 0F 8F with one of the operand size, and FF /4 and FF /2 through memory in 64-bit mode.
+/// The codes of JMP, CALL, Jcc and the branches on a counter belong to their rows: EB, 70 to 7F and E0 to E3 with an 8-bit offset, E9, E8 and 0F 80
+/// to 0F 8F with an offset of the operand size, and FF /4 and FF /2 through memory in 64-bit mode.
 pub fn codes_name_their_rows()
     ensures short_jump { (size : Bits) → NamesRow (short_code Jump size) One 0xEB No Jb size }
     ensures short_condition { (n : ℕ) (size : Bits) → n < 16 → NamesRow (short_code (Condition n) size) One (0x70 + n) No Jb size }
@@ -52,18 +53,18 @@ pub fn codes_name_their_rows()
     ensures far_call { NamesRow (far_code Call) One 0xFF (Digit 2) Ev B64 }
 {}
 
-/// The form that a branch has as it stands has the code of the instruction itself: what the branch does and its size are read off rightly.
+/// The present form of a branch has the code of the instruction itself, so its action and size are determined correctly.
 pub fn branches_keep_their_codes()
     ensures { (i : Instr) (b : RelativeBranch) → branch_of i ≡ Some b → own_code b ≡ i.code.0 }
 {}
 
-/// The rows of the codes of branches, whole.
+/// The complete rows of the branch codes.
 #[inline]
 pub fn codes_have_their_rows()
     ensures { CodeFacts }
 {}
 
-/// How many bytes each instruction of an image has.
+/// The number of bytes of each instruction of an image.
 #[inline]
 pub fn pieces_have_their_lengths()
     ensures { PieceFacts }
@@ -71,7 +72,7 @@ pub fn pieces_have_their_lengths()
     laws_below();
 }
 
-/// The forms of an instruction are those of an item of a plan, with lengths that rest neither on the place nor on the goal.
+/// The forms of an instruction are those of an item of a plan. Their lengths depend neither on the place nor on the goal.
 #[inline]
 pub fn forms_are_fit()
     ensures { FormFacts }

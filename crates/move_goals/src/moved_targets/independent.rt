@@ -9,8 +9,8 @@ use arrayvec::ArrayVec;
 use encoder::encode;
 use x86_values::{Bits, Instr};
 
-/// The bytes of the plain spelling of an instruction without a target, 1 to 15, which are the same at every address. None where it has a target, or no
-/// plain spelling.
+/// Returns the bytes, 1 to 15, of the plain spelling of an instruction without a target. They are the same at every address. Returns None if it has a
+/// target or no plain spelling.
 pub fn independent_bytes(bits: Bits, instr: &Instr) -> ArrayVec<u8, 15>
     ensures value { result.items ≡ spec.independent_bytes bits instr.now }
     ensures everywhere { 0 < length result.items → spec.IsIndependent bits instr.now result.items }

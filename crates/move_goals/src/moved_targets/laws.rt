@@ -25,7 +25,7 @@ pub fn aim_keeps_the_length()
     ensures { (bits : Bits) (t : ℕ) (i : Instr) → plain_length bits (with_target t i) ≡ plain_length bits i }
 {}
 
-/// What is spelled at some address has a plain length of 1 to 15 bytes.
+/// An instruction that has a spelling at some address has a plain length of 1 to 15 bytes.
 pub fn spelled_is_short()
     ensures { (bits : Bits) (ip : ℕ) (bytes : List ℕ) (i : Instr) → length i.ops ≡ 4 → Spells table bits ip bytes i
         → (1 ≤ plain_length bits i) × (plain_length bits i ≤ 15) }
@@ -33,8 +33,8 @@ pub fn spelled_is_short()
     encoder::laws::spelled_meets_conditions();
 }
 
-/// What is spelled at some address and is no near branch has a plain spelling at any other place from which its operand at RIP or EIP, if it has one,
-/// reaches its new target.
+/// An instruction that has a spelling at some address and is no near branch has a plain spelling at every other address from which its RIP or EIP
+/// operand, if any, reaches its new target.
 pub fn spelled_is_encoded_elsewhere()
     ensures { (bits : Bits) (old place t : ℕ) (bytes : List ℕ) (i : Instr) → length i.ops ≡ 4 → Spells table bits old bytes i
         → first_value near_value i ≡ None → Reaches (target_reach i) (plain_length bits i) place t
@@ -45,30 +45,30 @@ pub fn spelled_is_encoded_elsewhere()
     encoder::laws::spelled_meets_conditions();
 }
 
-/// What has a target has the other one when it is aimed at that.
+/// An instruction with a target has the new target after it is aimed at that target.
 pub fn aimed_has_its_target()
     ensures { (t old : ℕ) (i : Instr) → length i.ops ≡ 4 → target_of i ≡ Some old → target_of (with_target t i) ≡ Some t }
 {}
 
-/// What has no target stays as it is.
+/// An instruction without a target does not change.
 #[inline]
 pub fn without_target_nothing_changes()
     ensures { (t : ℕ) (i : Instr) → length i.ops ≡ 4 → target_of i ≡ None → with_target t i ≡ i }
 {}
 
-/// What has no target is encoded alike at every address.
+/// An instruction without a target has the same encoding at every address.
 #[inline]
 pub fn without_target_encoded_alike()
     ensures { (bits : Bits) (ip other : ℕ) (i : Instr) → length i.ops ≡ 4 → target_of i ≡ None → encoding bits ip i ≡ encoding bits other i }
 {}
 
-/// What has no target reaches wherever it stands.
+/// An instruction without a target reaches from every place.
 #[inline]
 pub fn without_target_all_is_reached()
     ensures { (i : Instr) → target_of i ≡ None → target_reach i ≡ Always }
 {}
 
-/// All of these as one record.
+/// All of these laws, as one record.
 #[inline]
 pub fn spellings_are_moved()
     ensures { TargetFacts }
@@ -77,7 +77,7 @@ pub fn spellings_are_moved()
     encoder::laws::spelled_meets_conditions();
 }
 
-/// An offset holds each address at a signed distance of its size from the end of an instruction.
+/// An offset holds each address that is a signed distance of its size from the end of an instruction.
 #[inline]
 pub fn near_addresses_are_reached()
     ensures { DistanceFacts }

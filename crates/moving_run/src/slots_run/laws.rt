@@ -7,7 +7,7 @@ use branch_sizes::laws::least_is_unique;
 use code_region::laws::places_are_gaps;
 use sweep::sweep_text::laws::sweeps_agree;
 
-/// Some code has one answer: the same refusal, or slots.
+/// Some code has exactly one answer: the same refusal, or slots.
 #[inline]
 pub fn code_has_one_answer()
     ensures { SlotsAnswerFacts }

@@ -18,12 +18,12 @@ use sweep::run_parts::{Status, put_all, read_whole};
 /// The greatest number of slots.
 const MOST: u64 = 65_536;
 
-/// Reads the source to its end, as code of the range's mode whose first byte has the address `base`, gives each instruction a slot in the range, in order
-/// and each at its own address, which wraps, and writes the bytes of the range.
+/// Reads the source to its end as code of the range's mode whose first byte has the address `base`, gives each instruction a slot in the range, in
+/// order and at its own address (which wraps), and writes the bytes of the range.
 ///
-/// In this order: `ReadFault`, `TooLarge` above 1,048,576 bytes, `BadCode` at the first single byte of the sweep; at the first instruction that gets no
-/// slot `RegionFull` where no gap has the length that is reserved for it, else `TooFar`; `WriteFault`; `Memory` at any point. Nothing is written before all
-/// but `WriteFault` are past. At most 1,048,577 bytes are taken, and after `ReadFault` the source is not asked again.
+/// Statuses, in this order: `ReadFault`; `TooLarge` above 1,048,576 bytes; `BadCode` at the first byte of the sweep that starts no instruction; at
+/// the first instruction that gets no slot, `RegionFull` if no gap has the reserved length, or else `TooFar`; `WriteFault`. `Memory` can occur at any
+/// point. Nothing is written unless only `WriteFault` can still occur. At most 1,048,577 bytes are read, and nothing after `ReadFault`.
 #[tactic(auto, unfolding(sweep::specs::RunParts::Reads::whole_limit))]
 pub fn slot_code<S: Source, K: Sink>(
     alloc: Global,

@@ -47,8 +47,8 @@ fn step_next(
     }
 }
 
-/// Gives each instruction of some code, whose first byte has the address `base`, a slot, or tells by a status why not: by the first single byte of the
-/// code, or else by the first instruction that gets none.
+/// Gives each instruction of some code, whose first byte has the address `base`, a slot. Otherwise it returns a status, for the first byte that
+/// starts no instruction, or else for the first instruction that gets no slot.
 pub fn step_all(
     alloc: Global,
     range: &SlotRange,

@@ -9,16 +9,16 @@ ghost use Rattle.row_lists.specs.RowFields.Holds.{holds};
 ghost use Rattle.opcode_rows.specs.Table.{table};
 ghost use Rattle.opcode_rows.specs.UniqueSpelling.FieldsOf.{fields_of, first_byte};
 
-/// Where a spelling fits a row of the table, the row's conditions hold on the nine fields that the spelling's prefixes, VEX, opcode byte and the
-/// byte behind it give, whatever follows the spelling.
+/// If a spelling fits a row of the table, the row's conditions hold for the nine fields of the spelling's prefixes, VEX, opcode byte and the byte
+/// after it, whatever follows the spelling.
 pub fn fitting_rows_hold()
     ensures { (bits : Bits) (code : ℕ) (row : Row) (s : Spelling) (rest : List ℕ)
         → slice_get table code ≡ Some row → IsTrue (fits bits row s)
         → IsTrue (holds bits row (fields_of (state_of bits row s) (first_byte (tail_bytes s ++ rest)))) }
 {}
 
-/// In each mode, fitting spellings of rows of the table that begin the same bytes are the same spelling of the same row, with the same rest. So
-/// bytes have at most one row and spelling, and no bytes of a fitting spelling begin those of another.
+/// In each mode, two fitting spellings of rows of the table that begin the same bytes are the same spelling of the same row, with the same rest. So
+/// bytes have at most one row and one spelling, and no fitting spelling is a proper prefix of another.
 pub fn spellings_are_unique()
     ensures { (bits : Bits) (j k : ℕ) (q r : Row) (s t : Spelling) (rest others : List ℕ)
         → slice_get table j ≡ Some q → slice_get table k ≡ Some r → IsTrue (fits bits q s) → IsTrue (fits bits r t)

@@ -9,10 +9,10 @@ use byte_ports::{Failed, Source};
 use std::alloc::Global;
 use thiserror::Error;
 
-/// How many bytes a command that takes its input as a whole reads at most.
+/// The maximum number of bytes that a command reads if it takes its whole input at once.
 pub const WHOLE_LIMIT: u32 = 1_048_576;
 
-/// How many bytes a command that goes through code reads at most.
+/// The maximum number of bytes that a command reads if it streams code.
 pub const CODE_LIMIT: u32 = 16_777_216;
 
 /// Why a source was not read to its end.
@@ -101,9 +101,10 @@ fn read_all<S: Source>(alloc: Global, source: &mut S, limit: u32) -> Result<Vec<
     Ok(input)
 }
 
-/// Reads a source to its end, where it has at most [`WHOLE_LIMIT`] bytes, or tells by a status why not. Whatever the answer is, it takes at most one byte more.
+/// Reads a source of at most [`WHOLE_LIMIT`] bytes to its end, or returns a status. In any case it reads at most one byte more than the limit.
 ///
-/// `ReadFault` comes only where the source failed, and the source is not asked again; `TooLarge` only where one byte more than the limit was taken, and `Memory` at any point.
+/// `ReadFault` occurs only if the source failed; then the source is not read again. `TooLarge` occurs only if one byte more than the limit was read.
+/// `Memory` can occur at any point.
 #[tactic(auto, unfolding(crate::specs::RunParts::Reads::whole_limit))]
 pub fn read_whole<S: Source>(alloc: Global, source: &mut S) -> Result<Vec<u8>, Status>
     ensures ok { IfOk result (λ input. ReadsAll whole_limit (S.left source.old) (S.left source.new) input.items) }

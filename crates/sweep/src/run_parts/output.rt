@@ -8,7 +8,7 @@ ghost use Rattle.sweep.specs.RunParts.Writing.{HoldsFront, Moves, Says, Puts, Pu
 use crate::sweep_text::{CHUNK_LEN, Chunk, LINE_LEN};
 use byte_ports::{Failed, Sink};
 
-/// Writes all the bytes. After `Failed` the first of them were written, and the `put` that failed was the last.
+/// Writes all the bytes. After `Failed` the first of them are written, and the failed `put` was the last call.
 pub fn put_all<K: Sink>(out: &mut K, bytes: &[u8]) -> Result<(), Failed>
     ensures ok { OnOk result (K.held out.new ≡ with_back (K.held out.old) bytes.now) }
     ensures err { OnErr result (HoldsFront (K.held out.old) (K.held out.new) bytes.now) }
@@ -24,7 +24,7 @@ pub fn put_all<K: Sink>(out: &mut K, bytes: &[u8]) -> Result<(), Failed>
     Ok(())
 }
 
-/// Writes what is held back where there is no room behind it for a line. After `Failed` the `put` that failed was the last.
+/// Writes the buffer if it has no space left for a line. After `Failed` the failed `put` was the last call.
 pub fn make_room<K: Sink>(pending: &mut Chunk, out: &mut K) -> Result<(), Failed>
     ensures room { OnOk result (array_vec_len pending.new + LINE_LEN ≤ CHUNK_LEN) }
     ensures ok { OnOk result (Moves (K.held out.old) (K.held out.new) pending.old.items pending.new.items []) }
@@ -40,7 +40,7 @@ pub fn make_room<K: Sink>(pending: &mut Chunk, out: &mut K) -> Result<(), Failed
     Ok(())
 }
 
-/// Writes a text, of which no more than the front may come where the sink fails.
+/// Writes a text. If the sink fails, at most the first part of it arrives.
 pub fn say<E: Sink>(err: &mut E, text: &[u8])
     ensures { Says (E.held err.old) (E.held err.new) text.now (Rose (E.faults err.old) (E.faults err.new)) }
 {

@@ -10,7 +10,7 @@ use decoder::DecodeError;
 use itoa::Buffer;
 use text_parts::text::{Text, append};
 
-/// How a run ends.
+/// The status with which a run ends.
 #[derive(Clone, Copy, PartialEq, Eq, Debug)]
 pub enum Status {
     /// The command was carried out.
@@ -39,7 +39,7 @@ pub enum Status {
     BadText { line: u64 },
 }
 
-/// The exit number of a status.
+/// Returns the exit number of a status.
 pub fn status_number(status: &Status) -> u8
     ensures { result ≡ spec.status_number status.now }
 {
@@ -142,7 +142,7 @@ fn bad_code_end(error: DecodeError) -> &'static [u8]
     }
 }
 
-/// The line of a status on standard error, with its line feed; `Done` has none.
+/// Returns the line of a status for standard error, with its line feed; `Done` has none.
 #[tactic(auto, unfolding(crate::specs::RunParts::StatusLine::status_line))]
 pub fn status_line(status: &Status) -> Text
     ensures { result.items ≡ spec.status_line status.now }

@@ -16,7 +16,7 @@ use text_parts::style::Style;
 use text_parts::text::{TEXT_LEN, append, append_few};
 use x86_values::{Instr, Operand};
 
-/// The name of a flow, as `info` and `flow` print it.
+/// Returns the name of a flow as `info` and `flow` print it.
 #[tactic(auto, unfolding(crate::specs::SweepText::Info::flow_name))]
 pub fn flow_name(flow: Flow) -> &'static [u8]
     ensures text { result.now ≡ spec.flow_name flow }

@@ -10,7 +10,7 @@ use crate::sweep_text::reading::{item_len, read_at};
 use decoder::reading_laws::bytes_have_one_reading;
 use x86_values::Bits;
 
-/// Some bytes at an offset are read in one way alone.
+/// Some bytes at an offset have at most one reading.
 pub fn readings_are_unique()
     ensures { (bits : Bits) (base offset : ℕ) (bytes : List ℕ) (reading other : Reading)
         → IsReadAt bits base offset bytes reading → IsReadAt bits base offset bytes other → reading ≡ other }
@@ -18,7 +18,7 @@ pub fn readings_are_unique()
     bytes_have_one_reading();
 }
 
-/// Some bytes have one sweep alone.
+/// Some bytes have at most one sweep.
 pub fn sweeps_are_unique()
     ensures { (bits : Bits) (base : ℕ) (bytes : List ℕ) (items others : List Item)
         → IsSweep bits base bytes items → IsSweep bits base bytes others → items ≡ others }
@@ -26,7 +26,7 @@ pub fn sweeps_are_unique()
     bytes_have_one_reading();
 }
 
-/// Sweeps of the same bytes agree: item for item, and in how they begin.
+/// Sweeps of the same bytes agree, item by item and at their start.
 #[inline]
 pub fn sweeps_agree()
     ensures { OneSweepFacts }
@@ -34,13 +34,13 @@ pub fn sweeps_agree()
     bytes_have_one_reading();
 }
 
-/// Items that are read one behind another from the front of some bytes on are the first of their sweep, and all of it at their end.
+/// Items that are read one after another from the first byte on are the first items of the sweep, and at the end of the bytes all of them.
 #[inline]
 pub fn items_stand_in_turn()
     ensures { SweptFacts }
 {}
 
-/// All bytes have a sweep, at every address of their first byte. The call goes through it.
+/// All bytes have a sweep, for every address of their first byte. This function computes it.
 pub fn all_bytes_have_a_sweep(bits: Bits, base: u64, bytes: &[u8])
     ensures { (items : List Item) × IsSweep bits base bytes.now items }
 {

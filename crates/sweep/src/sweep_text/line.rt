@@ -15,13 +15,13 @@ use text_parts::style::Style;
 use text_parts::text::{TEXT_LEN, append, append_few};
 use x86_values::{Bits, Decoded, wrap};
 
-/// How many bytes of text are held before they are written.
+/// The number of bytes of text that are buffered before they are written.
 pub const CHUNK_LEN: usize = 16384;
 
-/// How many bytes a line of the listing has at most.
+/// The maximum number of bytes of a line of the listing.
 pub const LINE_LEN: usize = 209;
 
-/// Text that is held before it is written.
+/// Buffered text.
 pub type Chunk = ArrayVec<u8, CHUNK_LEN>;
 
 /// The places of the byte column: two for each of 15 bytes.
@@ -43,7 +43,8 @@ pub(crate) fn append_bytes<const N: usize>(out: &mut ArrayVec<u8, N>, bytes: &[u
     }
 }
 
-/// Appends the address of an offset in code whose first byte has the address `base`: 4, 8 or 16 hexadecimal digits, as the mode has. It wraps in the mode.
+/// Appends the address of an offset in code whose first byte has the address `base`: 4, 8 or 16 hexadecimal digits, by the mode. The address wraps in
+/// the mode.
 #[inline(always)]
 #[tactic(auto, unfolding(crate::specs::SweepText::Listing::address_text))]
 pub fn append_address(out: &mut Chunk, bits: Bits, base: u64, offset: usize)

@@ -17,7 +17,7 @@ use text_parts::style::Style;
 use text_parts::text::append_few;
 use x86_values::{Bits, Decoded, Instr};
 
-/// What a command writes of the items of a sweep, a line each.
+/// The lines that a command writes, one for each item of a sweep.
 #[derive(Clone, Copy, PartialEq, Eq, Debug)]
 pub enum Lines {
     /// The address, the bytes and the text of each item, in a style.
@@ -32,7 +32,7 @@ pub enum Lines {
     Recode { to: Bits, new_base: u64 },
 }
 
-/// The error at which a command ends, where it has no line for what is read.
+/// Returns the error at which a command ends if it has no line for an item.
 #[inline]
 pub fn stop_of(lines: Lines, reading: &Result<Decoded, DecodeError>) -> Option<DecodeError>
     ensures { result ≡ spec.stop_of lines (reading_of reading.now) }
@@ -85,10 +85,10 @@ fn append_recode_line(
     append_few(out, b"\n");
 }
 
-/// Appends the line of an item, nothing where the command has none.
+/// Appends the line of an item, or nothing if the command has none.
 ///
-/// `base` is the address of the first byte of the code, `offset` how far the item follows it, `bytes` the bytes
-/// of the item, and `reading` what is read at its front.
+/// `base` is the address of the first byte of the code, `offset` the offset of the item, `bytes` the bytes of the item, and `reading` its decoded
+/// instruction or error.
 #[inline(always)]
 pub fn append_line(
     out: &mut Chunk,

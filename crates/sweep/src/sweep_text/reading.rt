@@ -10,7 +10,7 @@ use decoder::reading_laws::wrapped_addresses_read_alike;
 use decoder::{DecodeError, UNREAD, decode_in, decode_onto};
 use x86_values::{Bits, Decoded, wrap};
 
-/// Reads the bytes from an offset on, of code whose first byte has the address `base`. Addresses wrap in the mode.
+/// Decodes the bytes at an offset of code whose first byte has the address `base`. Addresses wrap in the mode.
 #[inline]
 #[tactic(auto, using(crate::proofs::SweepText::Covering::takes_some))]
 pub fn read_at(bits: Bits, base: u64, offset: usize, bytes: &[u8]) -> Result<Decoded, DecodeError>
@@ -24,7 +24,7 @@ pub fn read_at(bits: Bits, base: u64, offset: usize, bytes: &[u8]) -> Result<Dec
     decode_in(bits, ip, bytes)
 }
 
-/// Reads as [`read_at`], and makes the answer where it is wanted, so that no instruction is copied.
+/// Decodes like [`read_at`], but writes the result to `out`, so that no instruction is copied.
 #[inline(always)]
 #[tactic(auto, using(crate::proofs::SweepText::Covering::takes_some))]
 pub fn read_onto(
@@ -51,7 +51,7 @@ pub fn read_onto(
     }
 }
 
-/// How many bytes an item of the sweep takes: those of its instruction, or one where none is read.
+/// Returns the length in bytes of an item of the sweep: that of its instruction, or 1 if none starts there.
 #[inline]
 pub fn item_len(reading: &Result<Decoded, DecodeError>) -> usize
     ensures { result ≡ spec.item_len (reading_of reading.now) }

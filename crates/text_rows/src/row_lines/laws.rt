@@ -15,7 +15,7 @@ pub fn rows_have_proper_shapes()
     ensures { (code : ℕ) (row : Row) → slice_get table code ≡ Some row → IsTrue (is_proper (shape row)) }
 {}
 
-/// Reading the notation of a row gives the shape of the row.
+/// Reading the notation of a row returns the shape of the row.
 pub fn notation_is_read_back(code: Code) -> Result<RowShape, NotationFault>
     requires { code.0 < ROWS }
     ensures { (row : Row) → slice_get table code.0 ≡ Some row → result ≡ Ok (shape row) }

@@ -1,0 +1,237 @@
+//! The calls that users meet first, each with its result. The docstrings of the library show these lines as their examples.
+
+use bitflags::Flags;
+use feddurzai::assembling::{assemble, read_intel};
+use feddurzai::decoding::{Decoder, Items, decode_in, read_items};
+use feddurzai::encoding::{encode, encoded_len};
+use feddurzai::flow::graph_of_code;
+use feddurzai::format::{Intel, Style, ascii_str, print_att};
+use feddurzai::hooks::{Hooks, StartTarget, detour};
+use feddurzai::info::{
+    Features, FlagSet, all_memory, all_registers, flags_of, laws, needed_features,
+};
+use feddurzai::moving::move_code;
+use feddurzai::parts::offsets;
+use feddurzai::region::Region;
+use feddurzai::rows::{code_of, name, notation_of};
+use feddurzai::slots::{StepSlots, step_code};
+use feddurzai::streams::{Lines, MemSink, MemSource, stream_lines};
+use feddurzai::values::Bits;
+
+/// A function: push rbp; mov rbp, rsp; mov eax, edi; pop rbp; ret.
+static FUNCTION: [u8; 8] = *b"\x55\x48\x89\xe5\x89\xf8\x5d\xc3";
+
+/// Reads one instruction.
+fn read_one(rt: &HostRuntime) -> anyhow::Result<()> {
+    let read = decode_in(Bits::B64, 0x40_1000, b"\x48\x89\xe5\xc3")?;
+    let instr = read.instr;
+    let text = Intel {
+        bits: Bits::B64,
+        instr,
+    };
+    println!(rt; "{} bytes: {text}", read.len)?; // 3 bytes: mov rbp, rsp
+    Ok(())
+}
+
+/// Reads two instructions, one after the other.
+fn read_two(rt: &HostRuntime) -> anyhow::Result<()> {
+    let mut decoder = Decoder::<64>::new(b"\x55\xe8\xf6\x0f\x00\x00", 0x40_1000);
+    let push = decoder.decode()?;
+    let call = decoder.decode()?;
+    println!(rt; "{} {} {:x}", push.len, call.len, decoder.ip())?; // 1 5 401006
+    Ok(())
+}
+
+/// Reads all items of some bytes, and prints their addresses.
+fn read_each(rt: &HostRuntime) -> anyhow::Result<()> {
+    // push rbp, a byte that starts no instruction in 64-bit mode, ret
+    for item in Items::new(Bits::B64, 0x40_1000, b"\x55\x06\xc3") {
+        match item.reading {
+            Ok(read) => println!(rt; "{:x} {}", item.ip, read.len)?, // 401000 1, 401002 1
+            Err(why) => println!(rt; "{:x} {why}", item.ip)?,
+        }
+    }
+    Ok(())
+}
+
+/// Reads a whole function.
+fn read_function(rt: &HostRuntime) -> anyhow::Result<()> {
+    let items = read_items(rt.alloc(), Bits::B64, 0x40_1000, &FUNCTION)?;
+    println!(rt; "{} instructions", items.len())?; // 5 instructions
+    Ok(())
+}
+
+/// Finds the parts of an instruction.
+fn find_parts(rt: &HostRuntime) -> anyhow::Result<()> {
+    let mov = b"\x48\xc7\x40\x08\x01\x00\x00\x00"; // mov qword [rax+0x8], 0x1
+    let parts = offsets(Bits::B64, 0x40_1000, mov)?;
+    println!(rt; "{:?}", parts.displacement)?; // Part { at: 3, len: 1 }
+    println!(rt; "{:?}", parts.immediates[1])?; // Part { at: 4, len: 4 }
+    Ok(())
+}
+
+/// Encodes a jump at two places.
+fn encode_jump(rt: &HostRuntime) -> anyhow::Result<()> {
+    let jump = read_intel(Bits::B64, 0x40_1000, b"jmp 0x401080")?;
+    let bytes = encode(Bits::B64, 0x40_1000, &jump)?;
+    println!(rt; "{}", hex::encode(rt.alloc(), &bytes)?)?; // eb7e
+    println!(rt; "{}", encoded_len(Bits::B64, 0x40_1010, &jump)?)?; // 2
+    Ok(())
+}
+
+/// Assembles a text.
+fn assemble_one(rt: &HostRuntime) -> anyhow::Result<()> {
+    let bytes = assemble(Bits::B64, 0x40_1000, b"add r12, rax")?;
+    println!(rt; "{}", hex::encode(rt.alloc(), &bytes)?)?; // 4901c4
+    Ok(())
+}
+
+/// Prints an instruction in the AT&T style.
+fn print_one(rt: &HostRuntime) -> anyhow::Result<()> {
+    let read = decode_in(Bits::B64, 0x40_1000, b"\xf0\xff\x44\xbe\x10")?;
+    let text = print_att(Bits::B64, &read.instr);
+    println!(rt; "{}", ascii_str(&text))?; // lock incl 0x10(%rsi,%rdi,4)
+    Ok(())
+}
+
+/// Prints the registers that PUSH touches, implied ones too.
+fn show_registers(rt: &HostRuntime) -> anyhow::Result<()> {
+    let push = decode_in(Bits::B64, 0x40_1000, b"\x55")?;
+    for used in all_registers(Bits::B64, &push.instr).iter() {
+        println!(rt; "{:?} {:?}", used.reg, used.access)?; // R64(5) Read, R64(4) ReadWrite
+    }
+    Ok(())
+}
+
+/// Prints the memory that PUSH touches.
+fn show_memory(rt: &HostRuntime) -> anyhow::Result<()> {
+    let push = decode_in(Bits::B64, 0x40_1000, b"\x55")?;
+    for used in all_memory(Bits::B64, &push.instr).iter() {
+        println!(rt; "{:?} {} bytes {:?}", used.segment, used.size, used.access)?; // Ss 8 bytes Write
+    }
+    Ok(())
+}
+
+/// Prints whether ADD writes the zero flag, and whether an instruction needs AVX.
+fn show_flags(rt: &HostRuntime) -> anyhow::Result<()> {
+    let add = decode_in(Bits::B64, 0x40_1000, b"\x01\xf8")?;
+    laws::well_formed_codes_are_in_the_table();
+    let flags = flags_of(add.instr.code);
+    println!(rt; "{}", flags.written.contains(FlagSet::ZF))?; // true
+    println!(rt; "{}", needed_features(&add.instr).contains(Features::AVX))?; // false
+    Ok(())
+}
+
+/// Prints a row of the table.
+fn show_row(rt: &HostRuntime) -> anyhow::Result<()> {
+    if let Some(code) = code_of("imul", 0) {
+        println!(rt; "{} {}", name(code), ascii_str(&notation_of(code)))?; // imul o16 69 /r iw
+    }
+    Ok(())
+}
+
+/// Moves a function.
+fn move_function(rt: &HostRuntime) -> anyhow::Result<()> {
+    let moved = move_code(rt.alloc(), Bits::B64, 0x40_1000, &FUNCTION, 0x50_0000)?;
+    println!(rt; "{} {:x}", moved.bytes().len(), moved.starts()[1])?; // 8 500001
+    Ok(())
+}
+
+/// Reserves a block of a region.
+fn reserve_block(rt: &HostRuntime) -> anyhow::Result<()> {
+    let mut region = Region::make(rt.alloc(), 0x50_0000, 4096, 16)?;
+    let place = region.place(20)?;
+    region.try_fill(place, b"\x90\xc3")?;
+    println!(rt; "{place:x} {}", region.block_count())?; // 500000 1
+    region.release(place)?;
+    Ok(())
+}
+
+/// Gives an instruction a slot.
+fn step_one(rt: &HostRuntime) -> anyhow::Result<()> {
+    let mut slots = StepSlots::make(rt.alloc(), Bits::B64, 0x50_0000, 4096, 16)?;
+    let place = step_code(&mut slots, rt.alloc(), 0x40_1000, &FUNCTION)?;
+    println!(rt; "{place:x} {}", slots.live().len())?; // 500000 1
+    slots.finish(place)?;
+    Ok(())
+}
+
+/// Follows control.
+fn follow_control(rt: &HostRuntime) -> anyhow::Result<()> {
+    let code = b"\x74\x01\x90\xc3"; // je 0x401003; nop; ret
+    let graph = graph_of_code(rt.alloc(), Bits::B64, 0x40_1000, code)?;
+    println!(rt; "{:?} {:?}", graph.starts(), graph.leaders())?; // [0, 2, 3] [0, 2, 3]
+    Ok(())
+}
+
+/// Makes a patch and a trampoline.
+fn hook_function(rt: &HostRuntime) -> anyhow::Result<()> {
+    let (ip, to, place) = (0x40_1000, 0x50_0000, 0x60_0000);
+    let made = detour(
+        rt.alloc(),
+        Bits::B64,
+        ip,
+        &FUNCTION,
+        to,
+        place,
+        StartTarget::Moved,
+    )?;
+    println!(rt; "{}", hex::encode(rt.alloc(), made.patch())?)?; // e9fbef0f00cc
+    println!(rt; "{}", hex::encode(rt.alloc(), made.trampoline())?)?; // 554889e589f8e9fb0fe0ff
+    Ok(())
+}
+
+/// Keeps a hook in a range of trampolines.
+fn keep_hook(rt: &HostRuntime) -> anyhow::Result<()> {
+    let mut hooks = Hooks::make(rt.alloc(), Bits::B64, 0x60_0000, 4096, 64)?;
+    let (ip, to) = (0x40_1000, 0x50_0000);
+    let trampoline = hooks.install(rt.alloc(), ip, &FUNCTION, to, StartTarget::Moved)?;
+    println!(rt; "{trampoline:x} {}", hooks.live().len())?; // 600000 1
+    hooks.remove(trampoline)?;
+    Ok(())
+}
+
+/// Writes a listing to a sink.
+fn list_function(rt: &HostRuntime) -> anyhow::Result<()> {
+    let mut source = MemSource::new(&FUNCTION);
+    let mut sink = MemSink::new(rt.alloc(), 4096)?;
+    let lines = Lines::Listing {
+        syntax: Style::Intel,
+    };
+    let items = stream_lines(Bits::B64, 0x40_1000, lines, &mut source, &mut sink)?;
+    println!(rt; "{items} items, {} bytes", sink.bytes().len())?; // 5 items, 287 bytes
+    Ok(())
+}
+
+/// Runs the examples about single instructions.
+fn run_reading(rt: &HostRuntime) -> anyhow::Result<()> {
+    read_one(rt)?;
+    read_two(rt)?;
+    read_each(rt)?;
+    read_function(rt)?;
+    find_parts(rt)?;
+    encode_jump(rt)?;
+    assemble_one(rt)?;
+    print_one(rt)
+}
+
+/// Runs the examples about effects and rows.
+fn run_effects(rt: &HostRuntime) -> anyhow::Result<()> {
+    show_registers(rt)?;
+    show_memory(rt)?;
+    show_flags(rt)?;
+    show_row(rt)
+}
+
+/// Runs all examples.
+pub fn run(rt: &HostRuntime) -> anyhow::Result<()> {
+    run_reading(rt)?;
+    run_effects(rt)?;
+    move_function(rt)?;
+    reserve_block(rt)?;
+    step_one(rt)?;
+    follow_control(rt)?;
+    hook_function(rt)?;
+    keep_hook(rt)?;
+    list_function(rt)
+}
