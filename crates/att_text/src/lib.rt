@@ -22,7 +22,7 @@ use text_parts::text::{TEXT_LEN, Text};
 use text_rows::{printed_name, printed_row};
 use x86_values::{Bits, Instr};
 
-/// Appends the text of an instruction of a row with this name, in a mode, where there is room for it.
+/// Appends the text of an instruction of a row with this name, in a mode. `out` must have enough space left.
 #[tactic(auto, unfolding(crate::specs::Text::text_of))]
 fn append_short<const N: usize>(
     out: &mut ArrayVec<u8, N>,

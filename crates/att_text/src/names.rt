@@ -141,7 +141,7 @@ fn x87_letter(name: &[u8], n: u8) -> &'static [u8]
     }
 }
 
-/// The letter behind a name, where an operand is memory.
+/// Returns the letter after a name for an instruction with a memory operand.
 #[tactic(auto, unfolding(crate::specs::Names::memory_letter))]
 fn memory_letter(row: &Row, name: &[u8]) -> &'static [u8]
     requires { IsTrue (sound row.now) }

@@ -47,7 +47,7 @@ pub fn move_by_plan(
     move_with_ready(alloc, bits, items, plan, &[])
 }
 
-/// Moves the items of a plan as [`move_by_plan`] does. Where bytes of an item are ready, which do not depend on its place, these are written.
+/// Moves the items of a plan like [`move_by_plan`]. The ready bytes of an item, which do not depend on its place, are written as they are.
 pub(crate) fn move_with_ready(
     alloc: Global,
     bits: Bits,

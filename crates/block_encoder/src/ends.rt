@@ -1,4 +1,4 @@
-//! The bytes behind the images of a block: the gap, and the slots.
+//! The bytes after the images of a block: the gap, and the slots.
 
 ghost use Rattle.std.specs.Prelude.{◌≡◌, ◌++◌, ◌^◌, ◌<◌, length, slice_index, EachIndex, OnOk};
 ghost use Rattle.plain_spelling.specs.Values.{low_bytes};

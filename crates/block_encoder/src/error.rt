@@ -17,7 +17,7 @@ pub enum MoveError {
     /// There are this many items, more than 65,536.
     #[error("{count} instructions are too many")]
     TooMany { count: u64 },
-    /// The item of this number, from 0, is not the first of its block and does not begin where the one before it ended.
+    /// The item with this number, from 0, is not the first of its block and does not begin where the previous one ended.
     #[error("instruction {at} does not begin where the one before it ends")]
     OldOrder { at: u64 },
     /// A block passes the address space of the mode: its old or its new end is this address.

@@ -26,8 +26,8 @@ fn fragment_reach(instr: &Instr, form: Form, reach: Reach) -> Reach
     }
 }
 
-/// Appends the plain spelling of an instruction at an address, which is taken modulo 2 to the number of bits of the mode. The address behind it, or
-/// `None` where the instruction has no plain spelling there.
+/// Appends the plain spelling of an instruction at an address, which wraps at the address size of the mode. Returns the address after it, or `None`
+/// if the instruction has no plain spelling there.
 fn append_piece(
     bits: Bits,
     at: u128,
@@ -78,8 +78,8 @@ fn append_image(
     }
 }
 
-/// Appends the plain spellings of an image that may have several instructions, in its fragment. `false`: one of them has none there, and those before it may
-/// be appended. It is a function of its own, so that the other images need no room for three instructions.
+/// Appends the plain spellings of an image of several instructions in its fragment. Returns `false` if one of them has none there; those before it
+/// may be appended. It is a separate function, so that other images need no space for three instructions.
 #[inline(never)]
 fn append_several(
     bits: Bits,

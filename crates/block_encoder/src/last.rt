@@ -43,7 +43,7 @@ fn kept_target(items: &[Placed], k: usize) -> u64
     target_of(&items[k].instr).unwrap_or(0)
 }
 
-/// Puts the goal of a far form behind others, where it is not yet among them.
+/// Adds the goal of a far form to others, unless it is among them.
 fn add_goal(goals: &mut ArrayVec<u64, 2>, far: bool, goal: u64)
     requires { array_vec_len goals.old < 2 }
     ensures { goals.new.items ≡ with_goal goals.old.items far goal }

@@ -12,7 +12,7 @@ use move_goals::{Placed, plan_outside};
 use std::alloc::Global;
 use x86_values::Bits;
 
-/// One moved block, where blocks were moved.
+/// Returns the one moved block, if blocks were moved.
 fn one_block(answer: Result<MovedBlocks, MoveError>) -> Result<Moved, MoveError>
     ensures { result ≡ answer }
 {

@@ -33,7 +33,7 @@ fn goal_address(goal: Goal, address: u128) -> u64
     }
 }
 
-/// Appends the bytes of item `k` in its fragment, or refuses it where it does not reach its goal, which is this address.
+/// Appends the bytes of item `k` in its fragment, or refuses it if it cannot reach its goal, which is this address.
 #[inline(never)]
 fn write_aimed(
     bits: Bits,
@@ -58,7 +58,7 @@ fn write_aimed(
     }
 }
 
-/// Appends the bytes of item `k` in its fragment, those that are ready of it where there are some, or refuses it where it does not reach its goal.
+/// Appends the bytes of item `k` in its fragment (its ready bytes, if it has some), or refuses it if it cannot reach its goal.
 fn write_item(
     bits: Bits,
     k: usize,

@@ -1,4 +1,4 @@
-//! Laws of closed layouts, and of the blocks and lengths that they rest on.
+//! Laws of closed layouts, and of the blocks and lengths that they use.
 
 ghost use Rattle.std.specs.Prelude.{◌≡◌, List, ℕ};
 ghost use Rattle.branch_sizes.specs.Plan.{BlockPlan, IsWellFormed};

@@ -143,7 +143,7 @@ impl From<AllocError> for LayoutError {
 pub struct LeastLayout {
     /// The number of each item's choice.
     pub choices: Vec<u8>,
-    /// The address of each item's image, which may lie behind the end of the address space.
+    /// The address of each item's image, which may lie past the end of the address space.
     pub places: Vec<u128>,
 }
 

@@ -1,8 +1,8 @@
-//! Up to where places may grow before a branch no longer reaches.
+//! How far places may grow before a branch no longer reaches.
 //!
-//! Within its own block a signed reach depends on the bytes between a branch and its goal. Every other reach is lost
-//! once the place of the branch, or that of its goal, has grown past a limit that does not move. The limits only say
-//! which items are worth a test: a layout is found to be closed by testing all of it.
+//! Within its own block a signed reach depends on the bytes between a branch and its goal. Every other reach is lost once the place of the branch, or
+//! that of its goal, passes a limit that does not move. The limits only select the items to test: a layout is accepted as closed after a test of all
+//! of it.
 
 ghost use Rattle.std.specs.Prelude.{◌<◌, ◌^◌, IsTrue, length};
 ghost use Rattle.branch_sizes.specs.Plan.{is_fit_reach};
@@ -15,10 +15,10 @@ use crate::plan::{Choice, Goal, Reach};
 use crate::tables::Tables;
 use std::alloc::{AllocError, Global};
 
-/// The room of a place that has no limit: more than all items together can grow.
+/// The distance left at a place without a limit: more than all items together can grow.
 const UNLIMITED: i32 = 0x4000_0000;
 
-/// How far a place that stands at `from` may grow up to a limit.
+/// Returns how far a place at `from` may grow up to a limit.
 fn room(from: u128, limit: u128) -> i32 {
     if from > limit {
         return -1;
@@ -31,14 +31,14 @@ fn room(from: u128, limit: u128) -> i32 {
     }
 }
 
-/// How far the place of a branch and that of its goal may grow from where the layout of first choices has them.
+/// How far the place of a branch and that of its goal may grow from the layout of first choices.
 #[derive(Clone, Copy)]
 struct Rooms {
     own: i32,
     goal: i32,
 }
 
-/// The distances left to a branch that reaches wherever it and its goal stand.
+/// Returns the distances left to a branch that reaches its goal from every place.
 fn without_limit() -> Rooms {
     Rooms {
         own: UNLIMITED,
@@ -46,8 +46,8 @@ fn without_limit() -> Rooms {
     }
 }
 
-/// The distances left to a choice, where place and goal move apart from each other. They are stored at `place` and `goal` in the
-/// layout of first choices.
+/// Returns the distances left to a choice whose place and goal move apart from each other. They are at `place` and `goal` in the layout of first
+/// choices.
 fn rooms_apart(choice: &Choice, place: u128, goal: u128) -> Rooms
     requires fit { IsTrue (is_fit_reach choice.now.reach) }
     requires place { place < 2 ^ 66 }
@@ -105,15 +105,14 @@ fn rooms_of(tables: &Tables, layout: &[u8], k: usize) -> Rooms
     }
 }
 
-/// Some limits one behind the other: by how much the items among them have grown, and the least room of a limit, of
-/// which growth in front of it among them is taken off.
+/// Some consecutive limits: how much the items among them have grown, and the least distance left to a limit, less the growth before it among them.
 #[derive(Clone, Copy, Default)]
 struct Part {
     growth: i32,
     room: i32,
 }
 
-/// Two parts one behind the other.
+/// Joins two consecutive parts.
 fn join(front: Part, back: Part) -> Part {
     Part {
         growth: front.growth.wrapping_add(back.growth),
@@ -179,10 +178,10 @@ fn first_over_limit(parts: &[Part]) -> Option<usize> {
     Some(u - half)
 }
 
-/// The limits of all branches, in the order of the places that they are on.
+/// The limits of all branches, in the order of their places.
 ///
-/// They are the last half of `parts`, and part `u` is the join of parts `2 * u` and `2 * u + 1`. What an item grows by
-/// stands with the limit on its own place, and is taken back at the end of its block.
+/// They are the last half of `parts`, and part `u` is the join of parts `2 * u` and `2 * u + 1`. The growth of an item is stored with the limit on
+/// its own place, and taken back at the end of its block.
 #[derive(Drop)]
 pub(crate) struct Limits {
     parts: Vec<Part>,

@@ -1,4 +1,4 @@
-//! The least layout of moved blocks, with the place and goal of each item and the slots behind each block.
+//! The least layout of moved blocks, with the place and goal of each item and the slots after each block.
 
 pub mod laws;
 mod layout;

@@ -6,7 +6,7 @@ use std::marker::Model;
 /// The form of a moved instruction.
 #[derive(Clone, Copy, Debug, Default, PartialEq, Eq)]
 pub enum Form {
-    /// The instruction as it was: the one form of what is no relative branch.
+    /// The instruction as it was: the only form of an instruction that is no relative branch.
     #[default]
     Itself,
     /// A branch with an offset of 8 bits.
@@ -15,9 +15,9 @@ pub enum Form {
     Near,
     /// A branch through a slot of 8 bytes.
     Far,
-    /// A short branch that has no near form, onto a near JMP behind it.
+    /// A short branch without a near form, to a near JMP after it.
     Bridge,
-    /// A short branch that has no near form, onto a far JMP behind it.
+    /// A short branch without a near form, to a far JMP after it.
     FarBridge,
 }
 
@@ -45,8 +45,7 @@ pub enum Reach {
     Signed32,
     /// Those below 2 to a number of bits, which is 16 or 32.
     Below(u8),
-    /// Those below 2 to `bits`, which is 16 or 32, if `inner` bytes behind the start of the image is below it too: the
-    /// end of the jump inside the image.
+    /// Addresses below 2 to `bits`, which is 16 or 32, if the end of the jump inside the image, `inner` bytes after its start, is below it too.
     BridgeBelow { bits: u8, inner: u8 },
 }
 

@@ -12,7 +12,7 @@ use std::alloc::{AllocError, Global};
 /// How many items on either side of one that grew are looked at: a distance of 128 bytes spans no more.
 const WINDOW: usize = 128;
 
-/// Whether item `k` has choice `f` with an offset of 8 bits, and item `i` stands between it and its goal inside.
+/// Returns whether item `k` has choice `f` with an 8-bit offset, and item `i` lies between it and its inside goal.
 fn may_break(item: &Branch, f: usize, i: usize, k: usize) -> bool
     requires { f < length item.now.choices.items }
 {
@@ -30,7 +30,7 @@ fn may_break(item: &Branch, f: usize, i: usize, k: usize) -> bool
 #[derive(Drop)]
 pub(crate) struct Suspects {
     queue: Vec<u32>,
-    /// Whether each item stands in the queue.
+    /// Whether each item is in the queue.
     queued: Vec<bool>,
     limits: Limits,
 }

@@ -53,8 +53,8 @@ fn place_now(tables: &Tables, layout: &[u8], sums: &Sums, k: usize) -> u128
     new_base(&tables.spans[block]) + u128::from(before)
 }
 
-/// Whether a choice of item `k`, which stands at `from`, reaches the goal, which stands at `at` where it is an item. `first` of the tables has the
-/// places in the layout of first choices.
+/// Returns whether a choice of item `k`, at `from`, reaches the goal, which is at `at` if it is an item. `first` of the tables has the places in the
+/// layout of first choices.
 fn reaches_goal_from(
     tables: &Tables,
     k: usize,
@@ -281,7 +281,7 @@ fn settle(
     Ok(())
 }
 
-/// Lets each of the unclosed items grow that is not closed when its turn comes, with what that drives apart. The first one does.
+/// Grows each of the unclosed items that is not closed when its turn comes, and adds the items that this drives apart. The first one grows.
 fn grow_unclosed(
     tables: &Tables,
     layout: &mut [u8],

@@ -41,7 +41,7 @@ impl<P> FailAt<P> {
     }
 }
 
-/// Counts a call, and answers whether it is one of the listed.
+/// Counts a call, and returns whether its number is listed.
 #[tactic(auto, unfolding(crate::specs::FailAt::fails_next, crate::specs::Ports::last_count))]
 fn is_next_listed(calls: &[u64], made: &mut u64) -> bool
     ensures answer { result ≡ fails_next calls.now made.old }

@@ -1,4 +1,4 @@
-//! Where bytes come from and where they go to: sources and sinks that say when they fail, with fakes for tests.
+//! Sources and sinks of bytes that count their failures, with fakes for tests.
 #![tactic(auto)]
 
 mod count;

@@ -51,7 +51,7 @@ impl<'a> Source for MemSource<'a> {
 /// Why no sink in memory was made.
 #[derive(Clone, Copy, PartialEq, Eq, Debug, Error)]
 pub enum MakeError {
-    /// There is no memory for its room.
+    /// There is no memory for its buffer.
     #[error("out of memory")]
     Memory,
 }

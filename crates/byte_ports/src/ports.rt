@@ -7,17 +7,17 @@ use crate::failed::Failed;
 
 /// A source of bytes.
 pub trait Source {
-    /// The bytes that are left, or None where they are not told.
+    /// The bytes that are left, or None if they are unknown.
     ghost left: { Self → Option (List ℕ) };
 
     /// How often it has failed. It never falls.
     ghost faults: { Self → ℕ };
 
-    /// What a call may give: the source and the buffer before it, its answer, and both after it.
+    /// What a call may do: the source and the buffer before it, its result, and both after it.
     ghost pull_gives: { Self → List ℕ → Result ℕ Failed → Self → List ℕ → Type 0 } = { λ _ _ _ _ _. Unit {0} };
 
-    /// Writes the next bytes to the front of `into`, and answers their number, at most the length of `into`.
-    /// 0 for a buffer that is not empty is the end of the input. After `Failed` no byte was taken.
+    /// Writes the next bytes to the front of `into`, and returns their number, at most the length of `into`. 0 for a non-empty buffer is the end of
+    /// the input. After `Failed` no byte was read.
     fn pull(&mut self, into: &mut [u8]) -> Result<usize, Failed>
         ensures within { IfOk result (λ n. n ≤ length into.new) }
         ensures taken { IfOk result (λ n. left self.old ≡ with_front (take n into.new) (left self.new)) }
@@ -31,17 +31,17 @@ pub trait Source {
 
 /// A sink for bytes.
 pub trait Sink {
-    /// The bytes that it holds, or None where they are not told.
+    /// The bytes that it holds, or None if they are unknown.
     ghost held: { Self → Option (List ℕ) };
 
     /// How often it has failed. It never falls.
     ghost faults: { Self → ℕ };
 
-    /// What a call may give: the sink before it, the piece, the answer, and the sink after it.
+    /// What a call may do: the sink before it, the piece, the result, and the sink after it.
     ghost put_gives: { Self → List ℕ → Result ℕ Failed → Self → Type 0 } = { λ _ _ _ _. Unit {0} };
 
-    /// Appends the first bytes of `piece`, and answers their number: at least 1 for a piece that is not empty.
-    /// After `Failed` nothing of the piece was taken.
+    /// Appends the first bytes of `piece`, and returns their number: at least 1 for a non-empty piece. After `Failed` nothing of the piece was
+    /// written.
     fn put(&mut self, piece: &[u8]) -> Result<usize, Failed>
         ensures within { IfOk result (λ n. n ≤ length piece.now) }
         ensures progress { IfOk result (λ n. 0 < length piece.now → 0 < n) }

@@ -17,7 +17,7 @@ use encoder::encoded_len;
 use intel_reader::TextError;
 use x86_values::{Bits, Decoded, Instr};
 
-/// The bytes that a text stands for.
+/// Returns the bytes that a text stands for.
 fn bytes_of(bits: u32, ip: u64, text: &[u8]) -> Result<ArrayVec<u8, 15>, Refusal>
     ensures { MatchResult result (λ bytes. spec.IsAssemblyBy (bits_numbered bits) ip text.now (Ok bytes.items)) (λ why. spec.IsAssemblyBy (bits_numbered bits) ip text.now (Err why)) }
 {

@@ -1,4 +1,4 @@
-//! Where moved blocks are.
+//! The places of moved blocks.
 
 ghost use Rattle.std.specs.Prelude.{◌≡◌, ◌<◌, IfOk, length};
 ghost use Rattle.branch_sizes.specs.Layout.{block_number, first_of_block};

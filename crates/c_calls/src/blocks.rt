@@ -75,7 +75,7 @@ fn refusal_report(n: u64, why: BlocksRefusal) -> FlatBlocks
     }
 }
 
-/// The numbers of an answer for so many blocks.
+/// Returns the report of a result for `n` blocks.
 fn blocks_report(n: u64, answer: &Result<CodeBlocks, BlocksRefusal>) -> FlatBlocks
     ensures { result ≡ spec.blocks_report n answer.now }
 {
@@ -89,7 +89,7 @@ fn blocks_report(n: u64, answer: &Result<CodeBlocks, BlocksRefusal>) -> FlatBloc
     }
 }
 
-/// Writes places at the start of a buffer.
+/// Writes places to the start of a buffer.
 fn write_places(room: &mut [FlatPlace], places: &[FlatPlace])
     requires { length places.now ≤ length room.old }
     ensures { room.new ≡ places.now ++ drop (length places.now) room.old }

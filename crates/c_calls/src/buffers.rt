@@ -5,7 +5,7 @@ ghost use Rattle.c_calls.specs.Answers as spec;
 
 use crate::refusal::{Refusal, refusal_status};
 
-/// A number of bytes as it is returned.
+/// Returns a number of bytes as the result of a call.
 pub(crate) fn count_answer(n: usize) -> i32
     requires { n < 2 ^ 31 }
     ensures { result ≡ pos n }

@@ -1,4 +1,4 @@
-//! Where moved code ends.
+//! The end of moved code.
 
 ghost use Rattle.std.specs.Prelude.{◌≡◌, ◌+◌, ◌<◌, ◌≤◌, length};
 ghost use Rattle.move_goals.specs.BranchForms.Images.{form_length, instrs_of, pieces_length};

@@ -11,7 +11,7 @@ use crate::refusal::{Refusal, refusal_status};
 use decoder::{DecodeError, UNREAD, decode_onto};
 use x86_values::Bits;
 
-/// Reads the instruction at the front of some bytes in a mode that is known, into a flat struct, and answers its length or the refusal.
+/// Decodes the instruction at the front of some bytes, in a known mode, into a flat struct. Returns its length or the refusal.
 fn decode_into(bits: Bits, ip: u64, bytes: &[u8], instr: &mut FlatInstr) -> i32
     ensures { spec.IsDecodedIn bits ip bytes.now instr.old instr.new result }
 {

@@ -192,8 +192,8 @@ fn put_encoding(bits: Bits, ip: u64, instr: &Instr, out: &mut [u8]) -> i32
     }
 }
 
-/// Writes the bytes of a struct whose displacement gets a width first. Such a struct stands for no instruction before, so what stands for one need not
-/// come here.
+/// Encodes a struct whose displacement must first get a width. Such a struct stands for no instruction yet, so structs that stand for one never get
+/// here.
 #[cold]
 #[inline(never)]
 #[tactic(auto, unfolding(crate::specs::Answers::bytes_within, crate::specs::Answers::encoding_of))]

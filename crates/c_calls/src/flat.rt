@@ -70,7 +70,7 @@ pub struct FlatInfo {
     pub has_target: u8,
     /// 1 if there is a memory operand at RIP or EIP, else 0.
     pub has_ip_address: u8,
-    /// Where control goes, 0 to 8.
+    /// Where control goes after it, 0 to 8.
     pub flow: u8,
     /// The size of the memory operand in bytes, 0 to 32; 0 if there is none, or none of a size.
     pub memory_size: u8,
@@ -223,7 +223,7 @@ pub struct FlatDetour {
     pub slots_at: u64,
     /// The offset of the relay; the number of bytes if there is none.
     pub relay_at: u64,
-    /// The offset at which the code ends or does not go on as it has to, or the number of the instruction that does not reach its target.
+    /// The offset at which the code ends or does not continue as required, or the number of the instruction that cannot reach its target.
     pub at: u64,
     /// The offset that is entered, the target that is not reached, how many bytes the jump has, or the end that passes the address space.
     pub target: u64,
@@ -261,7 +261,7 @@ pub struct FlatRegion {
 #[derive(Clone, Copy)]
 #[repr(C)]
 pub struct FlatLive {
-    /// The address where it starts.
+    /// The address of its first byte.
     pub place: u64,
     /// How many bytes it takes.
     pub len: u64,

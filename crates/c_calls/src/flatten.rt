@@ -24,7 +24,7 @@ pub(crate) const ABSENT: FlatOperand = FlatOperand {
     disp_bits: 0,
 };
 
-/// A struct of which nothing is written yet.
+/// A struct to which nothing has been written.
 pub(crate) const NO_INSTR: FlatInstr = FlatInstr {
     op0: ABSENT,
     op1: ABSENT,
@@ -132,7 +132,7 @@ fn operand_into(operand: &Operand, out: &mut FlatOperand)
     }
 }
 
-/// Writes an instruction and its length to a struct, from which the instruction comes back.
+/// Writes an instruction and its length to a struct, from which the instruction can be read back.
 #[inline(always)]
 #[tactic(auto, using(crate::proofs::ThereAndBack::instr_back_flat), unfolding(crate::specs::Flat::flat_instr))]
 pub(crate) fn flat_into(d: &Decoded, out: &mut FlatInstr)
@@ -151,7 +151,7 @@ pub(crate) fn flat_into(d: &Decoded, out: &mut FlatInstr)
     out.asize = asize_number(d.instr.asize);
 }
 
-/// An instruction and its length. The instruction comes back from the struct.
+/// Returns the struct of an instruction and its length. The instruction can be read back from it.
 pub(crate) fn flat_decoded(d: &Decoded) -> FlatInstr
     ensures flat { result ≡ spec.flat_decoded d.now }
     ensures back { instr_back result ≡ Some d.now.instr }

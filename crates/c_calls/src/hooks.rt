@@ -173,7 +173,7 @@ fn detour_report(d: &Detour) -> FlatDetour
     }
 }
 
-/// The numbers of an answer.
+/// Returns the report of a result.
 fn hook_report(answer: &Result<Detour, HookRefusal>) -> FlatDetour
     ensures { result ≡ spec.hook_report answer.now }
 {
@@ -210,7 +210,7 @@ fn hook_of(
     }
 }
 
-/// Writes the patch and the trampoline, if both buffers hold them.
+/// Writes the patch and the trampoline, if both buffers are large enough.
 #[tactic(auto, unfolding(crate::specs::Hooks::hook_within))]
 fn put_hook(answer: &Result<Detour, HookRefusal>, patch: &mut [u8], trampoline: &mut [u8]) -> i32
     ensures said { result ≡ spec.hook_said (spec.hook_within (length patch.old) (length trampoline.old) answer.now) }

@@ -22,11 +22,11 @@ pub(crate) const MOST: usize = 1_048_576;
 pub(crate) enum Targets {
     /// It goes with that instruction.
     Follow,
-    /// It stays where it was.
+    /// Targets stay.
     Stay,
 }
 
-/// Moved code, and where each of its instructions went.
+/// Moved code, and the new place of each of its instructions.
 #[derive(Drop)]
 pub(crate) struct MovedCode {
     pub(crate) moved: Moved,

@@ -20,7 +20,7 @@ use x86_values::Bits;
 /// How many blocks are moved together at most.
 const MOST_BLOCKS: usize = 65_536;
 
-/// Moved blocks, where each of their instructions went, and where each of them is.
+/// Moved blocks, the new place of each of their instructions, and the place of each block.
 #[derive(Drop)]
 pub(crate) struct CodeBlocks {
     pub(crate) moved: MovedBlocks,
@@ -70,7 +70,7 @@ pub(crate) enum BlocksRefusal {
     Room,
 }
 
-/// The instructions of some blocks one after another, and for each block how many there are and where they move.
+/// The instructions of some blocks one after another, and for each block their number and its new address.
 #[derive(Drop)]
 struct ReadBlocks {
     items: Vec<Placed>,

@@ -68,7 +68,7 @@ fn slots_offset(moved: &Moved) -> u64
     (moved.bytes().len() as u64).saturating_sub(8 * slots)
 }
 
-/// The numbers of an answer.
+/// Returns the report of a result.
 fn report_of(answer: &Result<MovedCode, MoveRefusal>) -> FlatMove
     ensures { result ≡ spec.report_of answer.now }
 {
@@ -92,7 +92,7 @@ pub(crate) fn write_entries(map: &mut [FlatMoved], entries: &[FlatMoved])
     map[..entries.len()].copy_from_slice(entries);
 }
 
-/// Writes the moved bytes and the map, if both buffers hold them.
+/// Writes the moved bytes and the map, if both buffers are large enough.
 #[tactic(auto, unfolding(crate::specs::Moving::moved_within))]
 fn put_moved(answer: &Result<MovedCode, MoveRefusal>, out: &mut [u8], map: &mut [FlatMoved]) -> i32
     ensures said { result ≡ spec.moved_said (spec.moved_within (length out.old) (length map.old) answer.now) }

@@ -1,4 +1,4 @@
-//! Where the parts of an instruction are in its bytes.
+//! The parts of an instruction in its bytes.
 
 ghost use Rattle.std.specs.Prelude.{◌≡◌};
 ghost use Rattle.c_calls.specs.Numbers.{bits_numbered};
@@ -41,7 +41,7 @@ fn flat_offsets(offsets: &ByteOffsets) -> FlatOffsets
     }
 }
 
-/// Tells the parts of the instruction at the front of some bytes in a mode that is known, and answers its length or the refusal.
+/// Writes the parts of the instruction at the front of some bytes in a known mode, and returns its length or the refusal.
 fn offsets_into(bits: Bits, bytes: &[u8], parts: &mut FlatOffsets) -> i32
     ensures { spec.AreOffsetsIn bits bytes.now parts.old parts.new result }
 {

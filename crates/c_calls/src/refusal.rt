@@ -1,11 +1,11 @@
-//! Why a call does not do what it is asked.
+//! Why a call is refused.
 
 ghost use Rattle.std.specs.Prelude.{◌≡◌, ◌≤◌};
 ghost use Rattle.c_calls.specs.Refusals as spec;
 
 use encoder::NoSpelling;
 
-/// Why a call does not do what it is asked.
+/// Why a call is refused.
 #[derive(Clone, Copy)]
 pub(crate) enum Refusal {
     /// The mode is not 16, 32 or 64.
@@ -118,7 +118,7 @@ fn refusal_number(why: Refusal) -> u16
     }
 }
 
-/// A refusal as it is returned: its number, below zero.
+/// Returns the status of a refusal, a negative number.
 pub(crate) fn refusal_status(why: Refusal) -> i32
     ensures { result ≡ spec.refusal_status why }
 {

@@ -16,7 +16,7 @@ fn end_of(region: &FlatRegion) -> u128
     u128::from(region.base) + u128::from(region.size)
 }
 
-/// Puts a block before the one of this number, among the first ones of an array that has room for one more.
+/// Inserts a block before the one with this number, among the first ones of an array with space for one more.
 fn put_block(blocks: &mut [FlatLive], count: usize, index: usize, block: FlatLive)
     requires inside { index ≤ count }
     requires room { count < length blocks.old }

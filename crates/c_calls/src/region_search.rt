@@ -1,4 +1,4 @@
-//! Live blocks of a region: whether they are laid, and where one starts or a gap is.
+//! Live blocks of a region: whether they are valid, where a block starts, and where a gap is.
 
 ghost use Rattle.std.specs.Prelude.{◌≡◌, ◌<◌, ◌≤◌, ◌^◌, IsTrue, IfSome, IfNone};
 ghost use Rattle.c_calls.specs.Regions as spec;
@@ -10,7 +10,7 @@ use code_region::open_refusal;
 /// The unit in which places are handed out, in bytes.
 const UNIT: u64 = 16;
 
-/// Where a new block goes: its address, and the number of the live block that it precedes.
+/// The place of a new block: its address, and the number of the live block after it.
 #[derive(Clone, Copy)]
 pub(crate) struct NewPlace {
     pub(crate) index: usize,

@@ -145,7 +145,7 @@ fn refusal_report(why: StepRefusal) -> FlatStep
     }
 }
 
-/// The numbers of an answer for a place.
+/// Returns the report of a result for a place.
 fn report_of(answer: &Result<StepCode, StepRefusal>, place: u64) -> FlatStep
     requires { IfOk answer.now (λ code. spec.IsShortStep code) }
     ensures { result ≡ spec.step_report place answer.now }
@@ -161,7 +161,7 @@ fn report_of(answer: &Result<StepCode, StepRefusal>, place: u64) -> FlatStep
     }
 }
 
-/// Writes the code if the buffer holds it, and returns how many bytes it has.
+/// Writes the code if the buffer is large enough, and returns its length in bytes.
 #[tactic(auto, unfolding(crate::specs::Answers::bytes_within))]
 fn put_step(answer: &Result<StepCode, StepRefusal>, out: &mut [u8]) -> i32
     requires { IfOk answer.now (λ code. spec.IsShortStep code) }

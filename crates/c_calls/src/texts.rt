@@ -15,7 +15,7 @@ use text_parts::style::Style;
 use text_parts::text::Text;
 use x86_values::{Bits, Instr};
 
-/// Appends the text of a well-formed instruction in AT&T's style to none.
+/// Writes the text of a well-formed instruction in the AT&T style to an empty buffer.
 // A function of its own, so that the other styles do not pay for its frame.
 #[inline(never)]
 fn append_att_text(out: &mut Text, bits: Bits, instr: &Instr)

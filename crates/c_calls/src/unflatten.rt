@@ -1,4 +1,4 @@
-//! From a struct that came from C to the instruction that it stands for.
+//! Reads the instruction of a struct that came from C.
 
 ghost use Rattle.std.specs.Prelude.{◌≡◌};
 ghost use Rattle.c_calls.specs.Back as spec;

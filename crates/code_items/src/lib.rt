@@ -1,5 +1,5 @@
-//! Whole code as instructions: read one behind another, each with its address, and moved to another address. Nothing is required of the bytes, the mode
-//! or the addresses.
+//! Whole code as instructions: decoded one after another, each with its address, and moved to another address. The calls accept any bytes, modes and
+//! addresses.
 #![tactic(auto)]
 
 mod items;

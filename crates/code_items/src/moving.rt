@@ -23,7 +23,7 @@ use x86_values::Bits;
 /// any of them.
 #[derive(Clone, Copy, PartialEq, Eq, Debug, Error)]
 pub enum MoveCodeError {
-    /// No instruction begins at this offset from the first byte, where the one before it ends.
+    /// No instruction starts at this offset from the first byte, where the previous one ends.
     #[error("no instruction at offset {at:#x}: {error}")]
     BadCode { at: u64, error: DecodeError },
     /// There was not enough memory.
@@ -96,7 +96,7 @@ impl MovedCode {
     }
 }
 
-/// The address behind some code, where that passes the address space of the mode. Code without bytes has no end.
+/// Returns the address after some code, if it exceeds the address space of the mode. Code without bytes has no end.
 #[tactic(auto, unfolding(crate::specs::Items::old_pass))]
 fn old_pass(bits: Bits, old: u64, bytes: &[u8]) -> Option<u128>
     ensures { result ≡ spec.old_pass bits old bytes.now }

@@ -15,7 +15,7 @@ use x86_values::{Bits, wrap};
 /// Why code is not decoded into instructions.
 #[derive(Clone, Copy, PartialEq, Eq, Debug, Error)]
 pub enum ReadError {
-    /// No instruction begins at this offset from the first byte, where the one before it ends.
+    /// No instruction starts at this offset from the first byte, where the previous one ends.
     #[error("no instruction at offset {at:#x}: {error}")]
     BadCode { at: u64, error: DecodeError },
     /// There was not enough memory.

@@ -92,7 +92,7 @@ pub fn round_up(len: u64) -> u64
     }
 }
 
-/// Puts a stretch at its index, where there is room for it.
+/// Inserts a span at its index. There must be space for it.
 fn insert_span(spans: &mut Vec<Span>, index: usize, span: Span)
     requires inside { index ≤ vec_len spans.old }
     requires room { vec_len spans.old < vec_capacity spans.old }
@@ -217,7 +217,7 @@ impl Region {
         }
     }
 
-    /// Writes `content` at the front of the live block that starts at `place`, and CC over the rest of the block.
+    /// Writes `content` to the front of the live block that starts at `place`, and CC to the rest of the block.
     fn set_content(&mut self, place: u64, content: Content<'_>)
         requires { IsTrue (can_fill self.old place (length (content_bytes content))) }
         ensures { self.new ≡ after_fill self.old place (content_bytes content.entry) }
@@ -244,7 +244,7 @@ impl Region {
         Some(u64::from(self.spans[index].len))
     }
 
-    /// Does one command, and answers it.
+    /// Executes a command, and returns its reply.
     #[tactic(auto, unfolding(crate::specs::Running::reply_of, crate::specs::Running::after))]
     pub(crate) fn execute(&mut self, command: Command) -> Reply
         ensures reply { result ≡ reply_of self.old command }
@@ -257,7 +257,7 @@ impl Region {
         }
     }
 
-    /// Makes the content of the live block that starts at `place` `count` times `byte`, where it fits.
+    /// Makes `count` times `byte` the content of the live block that starts at `place`, if it fits.
     fn fill_repeated(&mut self, place: u64, byte: u8, count: u64) -> Reply
         ensures reply { result ≡ reply_of self.old (Command.Fill place byte count) }
         ensures state { self.new ≡ after self.old (Command.Fill place byte count) }

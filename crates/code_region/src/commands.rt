@@ -24,7 +24,7 @@ pub enum Reply {
     Placed { place: u64 },
     /// The length is 0.
     Empty,
-    /// As many blocks are live as the region has room for.
+    /// The maximum number of blocks is live.
     TooManyBlocks { max: u64 },
     /// No gap has `len` bytes, the rounded length; the longest has `largest`.
     Full { len: u64, largest: u64 },
@@ -40,7 +40,7 @@ pub enum Reply {
     TooLong { limit: u64 },
 }
 
-/// The reply that says what a request for a place answered.
+/// Returns the reply for the result of a reservation.
 pub(crate) fn reply_to_place(answer: Result<u64, PlaceError>) -> Reply
     ensures { result ≡ place_reply answer }
 {
@@ -52,7 +52,7 @@ pub(crate) fn reply_to_place(answer: Result<u64, PlaceError>) -> Reply
     }
 }
 
-/// The reply that says what a release answered.
+/// Returns the reply for the result of a release.
 pub(crate) fn reply_to_release(answer: Result<(), NotTaken>) -> Reply
     ensures { result ≡ release_reply answer }
 {

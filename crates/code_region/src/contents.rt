@@ -35,7 +35,7 @@ pub fn write_bytes(image: &mut [u8], start: usize, len: usize, content: &[u8])
     erase(image, start + content.len(), len - content.len());
 }
 
-/// Writes `count` times `byte` at `start`, and INT3 over the rest of the `len` bytes from there.
+/// Writes `count` times `byte` at `start`, and INT3 to the rest of the `len` bytes.
 fn repeat(image: &mut [u8], start: usize, len: usize, byte: u8, count: usize)
     requires inside { start + len ≤ length image.old }
     requires fits { count ≤ len }

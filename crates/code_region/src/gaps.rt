@@ -14,8 +14,8 @@ pub struct Span {
 /// The result of a search for a gap.
 #[derive(Clone, Copy)]
 pub enum Search {
-    /// The gap before the stretch of this index, by address, is the first that is long enough, and it begins at this
-    /// offset. Once a stretch stands there, so many of the first ones have no gap before them.
+    /// The gap before the span with this index, by address, is the first that is long enough, and it begins at this offset. `packed`: once a span
+    /// fills it, so many of the first spans have no gap before them.
     Found {
         index: usize,
         start: u32,
@@ -27,7 +27,7 @@ pub enum Search {
     },
 }
 
-/// Where the first `count` stretches end, which leave no gap above 2 to the 32nd.
+/// Returns the end of the first `count` spans, which leave no gap above 2^32.
 #[inline]
 fn end_of(spans: &[Span], count: usize) -> u32
     requires inside { count ≤ length spans.now }
@@ -41,8 +41,8 @@ fn end_of(spans: &[Span], count: usize) -> u32
     last.start + last.len
 }
 
-/// How many of the first stretches have no gap before them, where there were `packed`, once one stands at `index`, in
-/// the first gap that is no shorter than needed; the longest gap before it has `largest` bytes.
+/// Returns how many of the first spans have no gap before them after a span is inserted at `index`, in the first gap that is long enough. Before,
+/// `packed` had none; the longest gap before `index` has `largest` bytes.
 #[inline]
 fn packed_with(packed: usize, index: usize, largest: u32) -> usize
     requires { index < 2 ^ 64 - 1 }

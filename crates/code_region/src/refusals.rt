@@ -25,7 +25,7 @@ pub enum PlaceError {
     /// The length is 0.
     #[error("no place for a length of 0")]
     Empty,
-    /// As many blocks are live as the region has room for.
+    /// The maximum number of blocks is live.
     #[error("all {max} blocks are live")]
     TooManyBlocks { max: u64 },
     /// No gap has `len` bytes, the length rounded up to a multiple of 16; the longest has `largest`.

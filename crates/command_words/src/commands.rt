@@ -24,8 +24,8 @@ pub enum Command {
         bits: Bits,
         base: u64,
     },
-    /// The bytes of each instruction of the input in the mode `to`, where the first byte has the address `new_base`, the input
-    /// being code of a mode whose first byte has the address `base`.
+    /// The bytes of each instruction in the mode `to`, with the first byte at the address `new_base`. The input is code of a mode whose first byte
+    /// has the address `base`.
     Recode {
         bits: Bits,
         base: u64,
@@ -50,7 +50,7 @@ pub enum Command {
         old: u64,
         new: u64,
     },
-    /// Where each instruction of the input goes when it is so moved, and in which form.
+    /// The new address and the form of each instruction of the input in the same move.
     Map {
         bits: Bits,
         old: u64,

@@ -86,7 +86,7 @@ fn is_address(bits: Bits, n: u64) -> bool
     }
 }
 
-/// The number, where it is an address of the mode.
+/// Returns the number if it is an address of the mode.
 #[tactic(auto, unfolding(crate::specs::Words::address_within))]
 fn address_in(bits: Bits, number: Option<u64>) -> Option<u64>
     ensures { result ≡ spec.address_within bits number }
@@ -97,7 +97,7 @@ fn address_in(bits: Bits, number: Option<u64>) -> Option<u64>
     }
 }
 
-/// The command, where no word is left behind it; else the word of this number is one too many.
+/// Returns the command if no word follows; otherwise the word with this number is superfluous.
 #[tactic(auto, unfolding(crate::specs::Words::with_no_more_words))]
 fn at_end(words: &[&str], word: u64, command: Command) -> Command
     ensures { result ≡ spec.with_no_more_words (spec.texts words.now) word command }
@@ -108,7 +108,7 @@ fn at_end(words: &[&str], word: u64, command: Command) -> Command
     }
 }
 
-/// The words behind `list BITS BASE SYNTAX`.
+/// Reads the words after `list BITS BASE SYNTAX`.
 #[tactic(auto, unfolding(crate::specs::Words::list_end))]
 fn list_end(bits: Bits, base: u64, syntax: Option<Style>, words: &[&str]) -> Command
     ensures { result ≡ spec.list_end bits base syntax (spec.texts words.now) }
@@ -119,7 +119,7 @@ fn list_end(bits: Bits, base: u64, syntax: Option<Style>, words: &[&str]) -> Com
     }
 }
 
-/// The words behind `list BITS BASE`.
+/// Reads the words after `list BITS BASE`.
 #[tactic(auto, unfolding(crate::specs::Words::list_style))]
 fn list_style(bits: Bits, base: u64, words: &[&str]) -> Command
     ensures { result ≡ spec.list_style bits base (spec.texts words.now) }
@@ -130,7 +130,7 @@ fn list_style(bits: Bits, base: u64, words: &[&str]) -> Command
     }
 }
 
-/// The words behind `recode BITS1 OLD BITS2` and a word for `NEW`.
+/// Reads the words after `recode BITS1 OLD BITS2` and a word for `NEW`.
 #[tactic(auto, unfolding(crate::specs::Words::recode_base))]
 fn recode_base(bits: Bits, base: u64, to: Bits, new_base: Option<u64>, words: &[&str]) -> Command
     ensures { result ≡ spec.recode_base bits base to new_base (spec.texts words.now) }
@@ -149,7 +149,7 @@ fn recode_base(bits: Bits, base: u64, to: Bits, new_base: Option<u64>, words: &[
     }
 }
 
-/// The words behind `recode BITS1 OLD` and a word for `BITS2`.
+/// Reads the words after `recode BITS1 OLD` and a word for `BITS2`.
 #[tactic(auto, unfolding(crate::specs::Words::recode_bits))]
 fn recode_bits(bits: Bits, base: u64, to: Option<Bits>, words: &[&str]) -> Command
     ensures { result ≡ spec.recode_bits bits base to (spec.texts words.now) }
@@ -171,7 +171,7 @@ fn recode_bits(bits: Bits, base: u64, to: Option<Bits>, words: &[&str]) -> Comma
     }
 }
 
-/// The words behind `recode BITS1 OLD`.
+/// Reads the words after `recode BITS1 OLD`.
 #[tactic(auto, unfolding(crate::specs::Words::recode_words))]
 fn recode_words(bits: Bits, base: u64, words: &[&str]) -> Command
     ensures { result ≡ spec.recode_words bits base (spec.texts words.now) }
@@ -182,8 +182,7 @@ fn recode_words(bits: Bits, base: u64, words: &[&str]) -> Command
     }
 }
 
-/// The words behind a word for `NEW`, which is the last: the address, or the number of the word that is not allowed or too
-/// many.
+/// Reads the words after a word for `NEW`, which is the last one. Returns the address, or the number of the word that is not allowed or superfluous.
 #[tactic(auto, unfolding(crate::specs::Words::new_end_word))]
 fn new_end(new: Option<u64>, words: &[&str]) -> Result<u64, u64>
     ensures { result ≡ spec.new_end_word new (spec.texts words.now) }
@@ -197,8 +196,8 @@ fn new_end(new: Option<u64>, words: &[&str]) -> Result<u64, u64>
     }
 }
 
-/// The words behind `move BITS OLD` and `map BITS OLD`: the address `NEW`, or the number of the first word that is not
-/// allowed, missing or too many.
+/// Reads the words after `move BITS OLD` and `map BITS OLD`. Returns the address `NEW`, or the number of the first word that is not allowed, missing
+/// or superfluous.
 #[tactic(auto, unfolding(crate::specs::Words::new_words))]
 fn new_words(bits: Bits, words: &[&str]) -> Result<u64, u64>
     ensures { result ≡ spec.new_words bits (spec.texts words.now) }
@@ -231,7 +230,7 @@ fn map_end(bits: Bits, old: u64, new: Result<u64, u64>) -> Command
     }
 }
 
-/// The words behind `slots BITS OLD REGION` and a word for `SIZE`.
+/// Reads the words after `slots BITS OLD REGION` and a word for `SIZE`.
 #[tactic(auto, unfolding(crate::specs::Words::slots_size))]
 fn slots_size(old: u64, range: Option<SlotRange>, words: &[&str]) -> Command
     ensures { result ≡ spec.slots_size old range (spec.texts words.now) }
@@ -242,7 +241,7 @@ fn slots_size(old: u64, range: Option<SlotRange>, words: &[&str]) -> Command
     }
 }
 
-/// The range of this size, where it is one.
+/// Returns the range of this size, if it is valid.
 #[tactic(auto, unfolding(crate::specs::Words::range_in))]
 fn range_in(bits: Bits, base: u64, size: Option<u64>) -> Option<SlotRange>
     ensures { result ≡ spec.range_in bits base size }
@@ -253,7 +252,7 @@ fn range_in(bits: Bits, base: u64, size: Option<u64>) -> Option<SlotRange>
     }
 }
 
-/// The words behind `slots BITS OLD` and a word for `REGION`.
+/// Reads the words after `slots BITS OLD` and a word for `REGION`.
 #[tactic(auto, unfolding(crate::specs::Words::slots_region))]
 fn slots_region(bits: Bits, old: u64, base: Option<u64>, words: &[&str]) -> Command
     ensures { result ≡ spec.slots_region bits old base (spec.texts words.now) }
@@ -267,7 +266,7 @@ fn slots_region(bits: Bits, old: u64, base: Option<u64>, words: &[&str]) -> Comm
     }
 }
 
-/// The words behind `slots BITS OLD`.
+/// Reads the words after `slots BITS OLD`.
 #[tactic(auto, unfolding(crate::specs::Words::slots_words))]
 fn slots_words(bits: Bits, old: u64, words: &[&str]) -> Command
     ensures { result ≡ spec.slots_words bits old (spec.texts words.now) }
@@ -280,7 +279,7 @@ fn slots_words(bits: Bits, old: u64, words: &[&str]) -> Command
     }
 }
 
-/// The words behind `BITS BASE`.
+/// Reads the words after `BITS BASE`.
 #[tactic(auto, unfolding(crate::specs::Words::code_end))]
 fn code_end(through: Through, bits: Bits, base: u64, words: &[&str]) -> Command
     ensures { result ≡ spec.code_end through bits base (spec.texts words.now) }
@@ -297,7 +296,7 @@ fn code_end(through: Through, bits: Bits, base: u64, words: &[&str]) -> Command
     }
 }
 
-/// The words behind `BITS` and a word for `BASE`.
+/// Reads the words after `BITS` and a word for `BASE`.
 #[tactic(auto, unfolding(crate::specs::Words::code_base))]
 fn code_base(through: Through, bits: Bits, base: Option<u64>, words: &[&str]) -> Command
     ensures { result ≡ spec.code_base through bits base (spec.texts words.now) }
@@ -308,7 +307,7 @@ fn code_base(through: Through, bits: Bits, base: Option<u64>, words: &[&str]) ->
     }
 }
 
-/// The words behind a word for `BITS`.
+/// Reads the words after a word for `BITS`.
 #[tactic(auto, unfolding(crate::specs::Words::code_bits))]
 fn code_bits(through: Through, bits: Option<Bits>, words: &[&str]) -> Command
     ensures { result ≡ spec.code_bits through bits (spec.texts words.now) }
@@ -324,7 +323,7 @@ fn code_bits(through: Through, bits: Option<Bits>, words: &[&str]) -> Command
     }
 }
 
-/// The words behind the name of a command that goes through code.
+/// Reads the words after the name of a command that reads code.
 #[tactic(auto, unfolding(crate::specs::Words::code_words))]
 fn code_words(through: Through, words: &[&str]) -> Command
     ensures { result ≡ spec.code_words through (spec.texts words.now) }
@@ -346,8 +345,8 @@ fn block_len(old: u64, new: u64, len: Option<u64>) -> Result<BlockWords, u64>
     }
 }
 
-/// The words behind `OLD` of a block and a word for `NEW`: the block, the last one where no word is left; else how many words
-/// of the block precede the first that is not allowed.
+/// Reads the words after `OLD` of a block and a word for `NEW`. Returns the block, which is the last one if no word is left, or how many words of the
+/// block precede the first that is not allowed.
 #[tactic(auto, unfolding(crate::specs::Words::block_new))]
 fn block_new(old: u64, new: Option<u64>, words: &[&str]) -> Result<BlockWords, u64>
     ensures { result ≡ spec.block_new old new (spec.texts words.now) }
@@ -365,7 +364,7 @@ fn block_new(old: u64, new: Option<u64>, words: &[&str]) -> Result<BlockWords, u
     }
 }
 
-/// The words behind a word for `OLD` of a block.
+/// Reads the words after a word for `OLD` of a block.
 #[tactic(auto, unfolding(crate::specs::Words::block_old))]
 fn block_old(bits: Bits, old: Option<u64>, words: &[&str]) -> Result<BlockWords, u64>
     ensures { result ≡ spec.block_old bits old (spec.texts words.now) }
@@ -390,7 +389,7 @@ fn block_at(bits: Bits, words: &[&str]) -> Result<BlockWords, u64>
     }
 }
 
-/// The words behind `blocks BITS`.
+/// Reads the words after `blocks BITS`.
 fn blocks_from(bits: Bits, words: &[&str]) -> Command
     ensures { result ≡ spec.blocks_from 16 bits [] (spec.texts words.now) }
 {
@@ -413,7 +412,7 @@ fn blocks_from(bits: Bits, words: &[&str]) -> Command
     Command::Wrong { word: 50 }
 }
 
-/// The words behind a word for `BITS` of `blocks`.
+/// Reads the words after a word for `BITS` of `blocks`.
 #[tactic(auto, unfolding(crate::specs::Words::blocks_bits))]
 fn blocks_bits(bits: Option<Bits>, words: &[&str]) -> Command
     ensures { result ≡ spec.blocks_bits bits (spec.texts words.now) }
@@ -424,7 +423,7 @@ fn blocks_bits(bits: Option<Bits>, words: &[&str]) -> Command
     }
 }
 
-/// The words behind `blocks`.
+/// Reads the words after `blocks`.
 #[tactic(auto, unfolding(crate::specs::Words::blocks_words))]
 fn blocks_words(words: &[&str]) -> Command
     ensures { result ≡ spec.blocks_words (spec.texts words.now) }
@@ -435,7 +434,7 @@ fn blocks_words(words: &[&str]) -> Command
     }
 }
 
-/// The number of instructions to make, where it is one.
+/// Returns the number of instructions to make, if it is valid.
 #[tactic(auto, unfolding(crate::specs::Words::count_within))]
 fn count_in(count: Option<u64>) -> Option<SampleCount>
     ensures { result ≡ spec.count_within count }
@@ -443,7 +442,7 @@ fn count_in(count: Option<u64>) -> Option<SampleCount>
     SampleCount::new(count?)
 }
 
-/// The words behind `sample` and a word for `N`.
+/// Reads the words after `sample` and a word for `N`.
 #[tactic(auto, unfolding(crate::specs::Words::sample_count))]
 fn sample_count(count: Option<SampleCount>, words: &[&str]) -> Command
     ensures { result ≡ spec.sample_count count (spec.texts words.now) }
@@ -454,7 +453,7 @@ fn sample_count(count: Option<SampleCount>, words: &[&str]) -> Command
     }
 }
 
-/// The words behind `sample`.
+/// Reads the words after `sample`.
 #[tactic(auto, unfolding(crate::specs::Words::sample_words))]
 fn sample_words(words: &[&str]) -> Command
     ensures { result ≡ spec.sample_words (spec.texts words.now) }

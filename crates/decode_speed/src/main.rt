@@ -18,7 +18,7 @@ use std::io::{self, Read};
 use std::time::CpuClock;
 use x86_values::Bits;
 
-/// What the command line asks for.
+/// What the command line wants.
 #[derive(Clone, Copy)]
 enum Wanted {
     /// One pass of each work, and no time.
@@ -27,7 +27,7 @@ enum Wanted {
     Time(Work),
 }
 
-/// The mode that a word names, 64 where it names none.
+/// Returns the mode that a word names, or 64 for any other word.
 fn mode_of(word: &str) -> Bits {
     match word {
         "16" => Bits::B16,
@@ -36,7 +36,7 @@ fn mode_of(word: &str) -> Bits {
     }
 }
 
-/// What a word asks for, reading where it names nothing else.
+/// Returns what a word wants, or reading for any other word.
 fn wanted_of(word: &str) -> Wanted {
     match word {
         "count" => Wanted::Counts,
@@ -89,7 +89,7 @@ fn tell_counts(rt: &HostRuntime, bits: Bits, bytes: &[u8]) -> io::Result<()> {
     Ok(())
 }
 
-/// Makes passes of a work, and tells how long they took: so many, or as many as two seconds give where the number is 0.
+/// Makes passes of a work, and prints how long they took: so many passes, or as many as two seconds allow if the number is 0.
 fn tell_time(
     rt: &HostRuntime,
     bits: Bits,

@@ -67,7 +67,7 @@ const PAGE_LEN: usize = 1600;
 /// How many bytes a text has at most.
 const TEXT_LEN: usize = 160;
 
-/// Texts one behind another.
+/// Texts one after another.
 type Page = ArrayVec<u8, 1600>;
 
 fn count(counter: &mut u64) {
@@ -84,7 +84,7 @@ fn reads_as<const BITS: u32>(ip: u64, bytes: &[u8], instr: &Instr) -> bool
     }
 }
 
-/// Encodes an instruction at its own address, and reads it again where that is asked for.
+/// Encodes an instruction at its own address, and decodes the result if wanted.
 fn write<const BITS: u32>(
     spellings: &mut Spellings,
     bits: Bits,
@@ -112,7 +112,7 @@ fn write<const BITS: u32>(
     }
 }
 
-/// Writes the text of an instruction on the page, or on a new one where it is full, and tells how many bytes it has.
+/// Writes the text of an instruction on the page, or on a new one if the page is full, and returns its length.
 fn print(page: &mut Page, bits: Bits, instr: &Instr) -> usize
     requires { IsTrue (is_well_formed instr.now) }
 {
@@ -124,7 +124,7 @@ fn print(page: &mut Page, bits: Bits, instr: &Instr) -> usize
     page.len().wrapping_sub(before)
 }
 
-/// One pass: an instruction takes its bytes, and a place where none stands takes one.
+/// Makes one pass. An instruction takes its bytes, and a byte that starts none takes one.
 fn sweep<const BITS: u32>(bytes: &[u8], bits: Bits, work: Work) -> Counts
     requires { IsTrue (is_mode BITS) }
 {

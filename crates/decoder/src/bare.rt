@@ -1,4 +1,4 @@
-//! The rows that ask nothing more of a front and a ModRM that lead to them.
+//! Rows without further conditions once a front and a ModRM lead to them.
 
 ghost use Rattle.std.specs.Prelude.{◌≡◌, ◌<◌, slice_get, Some};
 ghost use Rattle.decoder.specs.Bare as spec;
@@ -9,8 +9,8 @@ use instruction_parts::counting::is_64;
 use opcode_rows::ROWS;
 use x86_values::{Bits, Code};
 
-/// What is known of a row beforehand: whether nothing is left to ask of it once a bare front leads to it, and the bytes of its immediates at each
-/// operand size.
+/// What is known of a row in advance: whether a bare front that leads to it leaves no condition open, and the number of bytes of its immediates at
+/// each operand size.
 #[derive(Clone, Copy)]
 pub(crate) struct BareRow {
     pub(crate) bare: bool,
@@ -19,7 +19,7 @@ pub(crate) struct BareRow {
     pub(crate) at_64: u8,
 }
 
-/// Whether a front has no LOCK and no VEX, and no REX outside 64-bit mode, where none is read.
+/// Returns whether a front has no LOCK and no VEX, and, outside 64-bit mode, no REX.
 #[inline]
 #[tactic(auto, unfolding(crate::specs::Bare::is_bare_front))]
 pub(crate) fn is_bare_front(bits: Bits, state: &PrefixState) -> bool

@@ -1,4 +1,4 @@
-//! Where the parts of an instruction stand in its bytes: prefixes, opcode, ModRM, SIB, displacement and each immediate (Intel SDM volume 2, 2.1).
+//! Where the parts of an instruction lie in its bytes: prefixes, opcode, ModRM, SIB, displacement and each immediate (Intel SDM volume 2, 2.1).
 
 pub mod laws;
 mod layout;

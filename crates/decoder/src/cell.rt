@@ -1,4 +1,4 @@
-//! The rows that stand where a front says, and the error that they tell.
+//! The rows of an opcode byte, and the error that they determine.
 
 ghost use Rattle.std.specs.Prelude.{◌≡◌, ◌+◌, ◌≤◌, is_some, Err};
 ghost use Rattle.instruction_parts.specs.Front.{front_of, Known};
@@ -20,14 +20,14 @@ use x86_values::{Bits, Code};
 /// The most bytes of an instruction (Intel SDM volume 2, 2.3.11).
 pub(crate) const LONGEST: usize = 15;
 
-/// The rows that stand at one opcode byte: the code of the first, and how many they are.
+/// The rows of one opcode byte: the code of the first, and their number.
 #[derive(Clone, Copy)]
 pub(crate) struct Cell {
     first: u16,
     len: u16,
 }
 
-/// The kind of the rows behind a front.
+/// Returns the kind of the rows after a front.
 #[inline]
 fn kind_of(state: &PrefixState) -> RowKind
     ensures { is_vex result ≡ is_some state.now.vex }
@@ -56,8 +56,7 @@ pub(crate) fn cell_of(state: &PrefixState) -> Cell
     }
 }
 
-/// Why bytes with a known front, which begin with no instruction, are none, by the rows of its cell: whether more bytes behind them make one.
-/// Each row is a step.
+/// Returns why bytes with a known front begin with no instruction, by the rows of its cell: whether more bytes can complete one. Each row is a step.
 #[cold]
 #[inline(never)]
 pub(crate) fn error_of<L: Ledger>(

@@ -1,4 +1,4 @@
-//! Reading instructions one behind another.
+//! A decoder for consecutive instructions.
 
 ghost use Rattle.std.specs.Prelude.{◌≡◌, ◌+◌, ◌<◌, ◌≤◌, ◌↔◌, List, length, drop, IsTrue, IfOk, Err};
 ghost use Rattle.x86_values.specs.Wrapping.{modulo_width};

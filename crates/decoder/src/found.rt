@@ -25,8 +25,8 @@ use std::sync::ledger::Ledger;
 use step_count::Steps;
 use x86_values::{Bits, Code, Decoded};
 
-/// Writes to `out` the instruction that bytes with a known front begin with, and answers None where there is none. It is read by the one row
-/// whose conditions hold on the front and the byte behind it.
+/// Writes to `out` the instruction at the front of bytes with a known front, or returns None if there is none. The one row whose conditions hold for
+/// the front and the byte after it reads the instruction.
 #[inline(always)]
 pub(crate) fn read_found<const BITS: u32, L: Ledger>(
     ip: u64,
@@ -56,7 +56,7 @@ pub(crate) fn read_found<const BITS: u32, L: Ledger>(
     }
 }
 
-/// The byte behind the opcode byte.
+/// Returns the byte after the opcode byte.
 #[inline]
 fn byte_behind(state: &PrefixState, bytes: &[u8]) -> Option<u8>
     ensures { result ≡ slice_get bytes.now (state.now.used + 1) }
@@ -64,8 +64,8 @@ fn byte_behind(state: &PrefixState, bytes: &[u8]) -> Option<u8>
     bytes.get(state.used as usize + 1).copied()
 }
 
-/// Reads by the row of a code, whose conditions hold on the nine fields of the front and the byte behind it. Where these leave nothing to ask,
-/// nothing is asked.
+/// Reads by the row of a code, whose conditions hold for the nine fields of the front and the byte after it. If no condition is left open, none is
+/// tested.
 // Which it is, is known before the row is looked up: so where nothing is asked the row need not stand in memory.
 #[inline(always)]
 fn read_by_code<L: Ledger>(
@@ -94,7 +94,7 @@ fn read_by_code<L: Ledger>(
     }
 }
 
-/// Reads by a row of which nothing is left to ask.
+/// Reads by a row without further conditions.
 #[inline(always)]
 fn read_bare<L: Ledger>(
     bits: Bits,
@@ -127,7 +127,7 @@ fn read_bare<L: Ledger>(
     }
 }
 
-/// Reads by a row of which all is asked.
+/// Reads by a row, and tests all its conditions.
 #[inline(never)]
 fn read_asked<L: Ledger>(
     bits: Bits,

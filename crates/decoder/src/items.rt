@@ -1,4 +1,4 @@
-//! The items of some bytes, one behind another.
+//! The items of some bytes, in order.
 
 ghost use Rattle.std.specs.Prelude.{◌≡◌, length, IsTrue};
 ghost use Rattle.std.specs.Result.{ForOk};
@@ -63,7 +63,7 @@ impl<'a> Iterator for Items<'a> {
 
     ghost remaining = { λ s. at_most (length s.bytes.now) };
 
-    /// The next item: an instruction, or a single byte where none stands.
+    /// Returns the next item: an instruction, or a single byte if none starts there.
     fn next(&mut self) -> Option<Item<'a>> {
         if self.bytes.is_empty() {
             return None;

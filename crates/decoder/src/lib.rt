@@ -23,10 +23,10 @@ use thiserror::Error;
 /// Why bytes do not decode to an instruction.
 #[derive(Clone, Copy, PartialEq, Eq, Debug, Error)]
 pub enum DecodeError {
-    /// The bytes begin with no instruction, and more bytes behind them make none.
+    /// No instruction starts here, whatever bytes follow.
     #[error("no instruction begins with these bytes")]
     Invalid,
-    /// The bytes, fewer than 15, begin with no instruction; they end before their opcode byte, or more bytes behind them make one.
+    /// The bytes, fewer than 15, begin with no instruction; they end before their opcode byte, or more bytes can complete one.
     #[error("the bytes end before an instruction does")]
     TooShort,
 }

@@ -45,7 +45,7 @@ pub fn decode<const BITS: u32>(ip: u64, bytes: &[u8]) -> Result<Decoded, DecodeE
     }
 }
 
-/// Reads the instruction at the front of some bytes with a counter of its own, and writes it to `out`. After an error `out` holds no instruction.
+/// Decodes the instruction at the front of some bytes with its own counter, and writes it to `out`. After an error `out` holds no instruction.
 // A ledger is picked only at a call without const parameters, so the mode is a value here.
 #[inline(always)]
 pub(crate) fn read_uncounted<L: Ledger>(
@@ -122,7 +122,7 @@ fn read_counted<const BITS: u32, L: Ledger>(
     }
 }
 
-/// Reads the instruction of bytes whose front is known. Only where none is found are the rows of the cell looked at, to tell the two errors apart.
+/// Decodes the instruction of bytes with a known front. Only if there is none it looks at the rows of the cell, to distinguish the two errors.
 #[inline(always)]
 fn read_known<const BITS: u32, L: Ledger>(
     ip: u64,

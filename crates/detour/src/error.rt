@@ -24,7 +24,7 @@ pub enum DetourError {
     /// At this offset, in the part to be taken, code that is no padding follows an instruction that never goes on.
     #[error("the code ends before offset {at:#x}, where other code stands")]
     Ends { at: u64 },
-    /// From the first of these offsets control may go to the second one, in the part to be taken and behind its first byte.
+    /// Control may go from the first offset to the second one, which lies in the overwritten part after its first byte.
     #[error("code at offset {from:#x} goes to offset {target:#x}, which would be written over")]
     Entered { from: u64, target: u64 },
     /// The trampoline passes the address space of the mode: it ends at this address.

@@ -1,4 +1,4 @@
-//! Hooks: detours whose trampolines stand in slots of one range of addresses.
+//! Hooks: detours whose trampolines lie in slots of one range of addresses.
 
 mod commands;
 mod hooking;

@@ -27,7 +27,7 @@ fn jump_to(bits: Bits, target: u64) -> Instr
     branch_to(near_code(Action::Jump, bits), None, target)
 }
 
-/// A jump to an address, as one that stands there.
+/// Returns a jump to an address, as an instruction that lies there.
 pub(crate) fn jump_back(bits: Bits, back: u64) -> Placed
     ensures { result ≡ trampoline.jump_back bits back }
 {
@@ -51,7 +51,7 @@ pub(crate) fn near_jump(bits: Bits, at: u64, target: u64) -> Option<ArrayVec<u8,
     }
 }
 
-/// The jump through the eight bytes behind it, which have an address.
+/// Returns the jump through the eight bytes after it, which hold an address.
 #[tactic(auto, unfolding(crate::specs::Jumps::absolute_jump))]
 pub(crate) fn absolute_jump(target: u64) -> ArrayVec<u8, 15>
     ensures value { result.items ≡ spec.absolute_jump target }

@@ -1,4 +1,4 @@
-//! Detours: a jump over the first bytes of a function, and a trampoline that does what they did and goes on behind them.
+//! Detours: a jump over the first bytes of a function, and a trampoline that does what these bytes did and continues after them.
 #![tactic(auto)]
 
 mod entries;

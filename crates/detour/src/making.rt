@@ -37,7 +37,7 @@ fn move_refusal(why: MoveError) -> DetourError
     }
 }
 
-/// The instructions to be taken for a jump of `need` bytes, where nothing but padding follows one that never goes on.
+/// Returns the instructions that a jump of `need` bytes replaces, if only padding follows one that does not continue.
 fn take_whole(
     alloc: Global,
     bits: Bits,
@@ -57,7 +57,7 @@ fn take_whole(
     }
 }
 
-/// The address of a relay behind so many bytes at a place, if it ends in the address space.
+/// Returns the address of a relay after `len` bytes at a place, if it ends inside the address space.
 #[tactic(auto, unfolding(crate::specs::Detours::relay_behind))]
 fn relay_behind(place: u64, len: usize) -> Option<u64>
     ensures { result ≡ spec.relay_behind place len }
@@ -70,7 +70,7 @@ fn relay_behind(place: u64, len: usize) -> Option<u64>
     }
 }
 
-/// That there is no relay, where nothing is taken for another cause than lack of memory.
+/// Returns that there is no relay, if the instructions are refused for any cause except lack of memory.
 fn no_relay_for(why: DetourError) -> Result<Option<u64>, DetourError>
     ensures none { IfOk result (λ relay. (relay ≡ None) × (why ≡ Memory → ⊥)) }
     ensures refused { IfErr result (λ error. error ≡ Memory) }
@@ -81,7 +81,7 @@ fn no_relay_for(why: DetourError) -> Result<Option<u64>, DetourError>
     }
 }
 
-/// That there is no relay, where what is taken is not moved for another cause than lack of memory.
+/// Returns that there is no relay, if the move is refused for any cause except lack of memory.
 fn no_relay_behind(why: MoveError) -> Result<Option<u64>, DetourError>
     ensures none { IfOk result (λ relay. (relay ≡ None) × (why ≡ move_error.Memory → ⊥)) }
     ensures refused { IfErr result (λ error. error ≡ Memory) }
@@ -92,7 +92,7 @@ fn no_relay_behind(why: MoveError) -> Result<Option<u64>, DetourError>
     }
 }
 
-/// The address of a relay behind the trampoline of what is taken, if there is one in the address space.
+/// Returns the address of a relay after the trampoline of the replaced instructions, if there is one in the address space.
 fn relay_of(
     alloc: Global,
     bits: Bits,
@@ -111,7 +111,7 @@ fn relay_of(
     }
 }
 
-/// The address of a relay behind the trampoline of a near jump, if there is one in the address space.
+/// Returns the address of a relay after the trampoline of a near jump, if there is one in the address space.
 fn relay_address(
     alloc: Global,
     bits: Bits,
@@ -216,7 +216,7 @@ fn trampoline_of(
     Ok(bytes)
 }
 
-/// Where the parts of a trampoline stand.
+/// Returns where the parts of a trampoline lie.
 #[tactic(auto, unfolding(crate::specs::Detours::parts_of))]
 fn parts_of(place: u64, items: &[Placed], moved: &MovedBlocks, relay: Option<u64>) -> Parts
     requires coded { AreCoded items.now }

@@ -11,14 +11,14 @@ pub enum JumpForm {
     Near,
     /// A near jump to a relay, which follows the trampoline and has the address of the replacement.
     Relay,
-    /// `FF 25` and the address of the replacement behind it, 14 bytes.
+    /// `FF 25` and the address of the replacement after it, 14 bytes.
     Absolute,
 }
 
 /// Where the parts of a trampoline lie, as offsets in bytes. The moved instructions begin at 0.
 #[derive(Clone, Copy, PartialEq, Eq, Debug)]
 pub struct Parts {
-    /// The jump back, if control goes on behind what was taken.
+    /// The jump back, if control continues after the replaced part.
     pub jump_back: Option<u64>,
     /// The first of the slots, if there are any.
     pub slots: Option<usize>,

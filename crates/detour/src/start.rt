@@ -5,6 +5,6 @@
 pub enum StartTarget {
     /// To the moved first instruction: a loop stays in the trampoline.
     Moved,
-    /// To where it went, and so through the jump of the detour: recursion comes to the replacement.
+    /// To its original target, and so through the jump of the detour: recursion reaches the replacement.
     Hooked,
 }

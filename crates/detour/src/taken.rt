@@ -73,7 +73,7 @@ pub(crate) fn take(
     Ok(Taken { items, len })
 }
 
-/// Whether control may go on behind an instruction.
+/// Returns whether control may continue after an instruction.
 fn item_goes_on(item: &Placed) -> bool
     requires { item.now.instr.code.0 < ROWS }
     ensures { result ≡ spec.item_goes_on item.now }
@@ -81,7 +81,7 @@ fn item_goes_on(item: &Placed) -> bool
     goes_on(flow_of(item.instr.code))
 }
 
-/// Whether an instruction only fills up space behind code: NOP of any length, or INT3.
+/// Returns whether an instruction only fills space after code: NOP of any length, or INT3.
 #[tactic(auto, unfolding(crate::specs::Taken::is_padding))]
 fn is_padding(item: &Placed) -> bool
     requires { item.now.instr.code.0 < ROWS }
@@ -91,7 +91,7 @@ fn is_padding(item: &Placed) -> bool
     name == "nop" || name == "int3"
 }
 
-/// The number of the first instruction behind which control never goes on.
+/// Returns the number of the first instruction after which control does not continue.
 #[tactic(auto, unfolding(crate::specs::Taken::first_end))]
 pub(crate) fn first_end(items: &[Placed]) -> Option<usize>
     requires { AreCoded items.now }
@@ -107,7 +107,7 @@ pub(crate) fn first_end(items: &[Placed]) -> Option<usize>
     None
 }
 
-/// How many of some instructions are moved: those up to the first behind which control never goes on.
+/// Returns how many of some instructions are moved: those up to the first after which control does not continue.
 pub(crate) fn moved_count(items: &[Placed]) -> usize
     requires { AreCoded items.now }
     ensures value { result ≡ spec.moved_count items.now }
@@ -132,7 +132,7 @@ pub(crate) fn offset_at(items: &[Placed], k: usize) -> usize
     offset
 }
 
-/// The number of the first instruction that is no padding, behind one that never goes on.
+/// Returns the number of the first instruction that is no padding, after one that does not continue.
 #[tactic(auto, unfolding(crate::specs::Taken::first_code_behind))]
 pub(crate) fn first_code_behind(items: &[Placed]) -> Option<usize>
     requires { AreCoded items.now }

@@ -20,7 +20,7 @@ use move_goals::moved_targets::target_of;
 use std::alloc::{AllocError, Global};
 use x86_values::{Bits, wrap};
 
-/// The instructions of the trampoline: those that are moved, and the jump back if control goes on behind them.
+/// Returns the instructions of the trampoline: the moved ones, and the jump back if control continues after them.
 #[tactic(auto, unfolding(crate::specs::Trampoline::block_items))]
 fn block_items(alloc: Global, bits: Bits, ip: u64, taken: &Taken) -> Result<Vec<Placed>, AllocError>
     requires { IsTakenFit bits taken.now }
@@ -74,7 +74,7 @@ fn goal_of_target(start: StartTarget, items: &[Placed], count: usize, target: u6
     }
 }
 
-/// The goal of instruction `k` of the trampoline, of which the first `count` are moved.
+/// Returns the goal of instruction `k` of the trampoline. The first `count` of its instructions are moved ones.
 fn goal_at(start: StartTarget, items: &[Placed], count: usize, k: usize) -> Goal
     requires within { count ≤ length items.now }
     requires few { length items.now ≤ 65536 }

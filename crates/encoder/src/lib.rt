@@ -31,7 +31,7 @@ use x86_values::{Bits, Instr, wrap};
 
 pub mod laws;
 
-/// Writes the encoding of an instruction of a row that exists in the mode, at an address of the mode, or answers why there is none.
+/// Writes the encoding of an instruction of a row that exists in the mode, at an address of the mode, or returns why there is none.
 #[inline(never)]
 fn encode_any_row(
     out: &mut ArrayVec<u8, 15>,
@@ -88,8 +88,8 @@ fn encode_row(
     }
 }
 
-/// Writes the encoding of an instruction of a row that exists in the mode, by the parts of its plain spelling, which say the address, by whether
-/// it has two operands at most, and by whether the row is a gather, or answers why there is none.
+/// Writes the encoding of an instruction of a row that exists in the mode, or returns why there is none. It is given the parts of its plain spelling,
+/// which include the address, whether it has at most two operands, and whether the row is a gather.
 #[inline(always)]
 fn write_parts(
     out: &mut ArrayVec<u8, 15>,
@@ -123,7 +123,7 @@ fn write_parts(
     None
 }
 
-/// Writes the encoding of an instruction at an address, or answers why there is none.
+/// Writes the encoding of an instruction at an address, or returns why there is none.
 fn encode_onto(out: &mut ArrayVec<u8, 15>, bits: Bits, ip: u64, instr: &Instr) -> Option<NoSpelling>
     requires empty { out.old.items ≡ [] }
     ensures { written_onto result out.new ≡ encoding bits ip instr.now }
@@ -138,7 +138,7 @@ fn encode_onto(out: &mut ArrayVec<u8, 15>, bits: Bits, ip: u64, instr: &Instr) -
     encode_row(out, bits, wrap(bits, u128::from(ip)), &row, instr)
 }
 
-/// The encoding of an instruction at an address: its bytes are written once, where the answer is made of them.
+/// Returns the encoding of an instruction at an address. Its bytes are written once, directly into the result.
 #[inline(never)]
 fn encode_by_row(bits: Bits, ip: u64, instr: &Instr) -> Result<ArrayVec<u8, 15>, NoSpelling>
     ensures { answer_bytes result ≡ encoding bits ip instr.now }

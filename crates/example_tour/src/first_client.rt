@@ -13,12 +13,12 @@ use std::io::Read;
 
 const BITS: Bits = Bits::B64;
 
-/// Where the code stands, and where it goes.
+/// The old and the new address of the code.
 const OLD: u64 = 0x40_1000;
 
 const NEW: u64 = 0x7fff_0000_0000;
 
-/// Writes where control goes from an instruction: its near target, or else the size of its memory operand.
+/// Writes the near target of an instruction, or else the size of its memory operand.
 fn show_target(rt: &HostRuntime, item: &CodeItem) -> anyhow::Result<()> {
     match near_target(&item.instr) {
         Some(target) => println!(rt; " -> {target:x}")?,
@@ -27,7 +27,7 @@ fn show_target(rt: &HostRuntime, item: &CodeItem) -> anyhow::Result<()> {
     Ok(())
 }
 
-/// Writes an instruction: its address, its text, how control goes on, and where.
+/// Writes an instruction: its address, its text, its flow and its target.
 fn show_item(rt: &HostRuntime, item: CodeItem) -> anyhow::Result<()> {
     let instr = item.instr;
     let text = Intel { bits: BITS, instr };
@@ -50,7 +50,7 @@ fn show_bytes(rt: &HostRuntime, bytes: &[u8]) -> anyhow::Result<()> {
     Ok(())
 }
 
-/// Writes where each instruction went, and in which form.
+/// Writes the new address of each instruction, and its form.
 fn show_places(rt: &HostRuntime, moved: &MovedCode) -> anyhow::Result<()> {
     let places = moved.starts().iter().zip(moved.forms());
     for (item, (start, form)) in moved.items().iter().zip(places) {
@@ -59,7 +59,7 @@ fn show_places(rt: &HostRuntime, moved: &MovedCode) -> anyhow::Result<()> {
     Ok(())
 }
 
-/// Moves the code to a place in a region, and writes where its instructions went.
+/// Moves the code to a place in a region, and writes the new addresses of its instructions.
 fn move_into(rt: &HostRuntime, code: &[u8], region: &mut Region) -> anyhow::Result<()> {
     let place = region.place(64)?;
     let moved = move_code(rt.alloc(), BITS, OLD, code, place)?;
@@ -67,7 +67,7 @@ fn move_into(rt: &HostRuntime, code: &[u8], region: &mut Region) -> anyhow::Resu
     show_places(rt, &moved)
 }
 
-/// Moves the code into a region, and writes where its instructions went, and the bytes.
+/// Moves the code into a region, and writes the new addresses of its instructions and the bytes.
 fn show_moved(rt: &HostRuntime, code: &[u8]) -> anyhow::Result<()> {
     let mut region = Region::make(rt.alloc(), NEW, 128, 8)?;
     move_into(rt, code, &mut region)?;

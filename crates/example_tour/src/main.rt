@@ -44,7 +44,7 @@ fn show_made(rt: &HostRuntime, bits: Bits, ip: u64) -> anyhow::Result<()> {
     show(rt, bits, ip, &bytes)
 }
 
-/// Moves the function, and shows where each instruction went and the bytes of all.
+/// Moves the function, and shows the new address of each instruction and the bytes.
 fn show_moved(rt: &HostRuntime, bits: Bits, old: u64, new: u64) -> anyhow::Result<()> {
     let moved = move_code(rt.alloc(), bits, old, &FUNCTION, new)?;
     show_places(rt, &moved)?;

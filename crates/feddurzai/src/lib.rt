@@ -1,7 +1,6 @@
-//! Instructions of 16, 32 and 64-bit x86: reading, writing, telling what they do, and moving them. One crate to depend on.
+//! x86 instructions of 16, 32 and 64-bit code: decoding, encoding, printing, analysis and moving. This one crate is all that a client depends on.
 //!
-//! Each module hands on what a user of the library calls from the crate that it stands in; what is proved of a call stands
-//! there, below it.
+//! Each module re-exports the calls of one subject. Their contracts are stated and proved in the crates that define them.
 #![tactic(auto)]
 
 mod columns;
@@ -17,7 +16,7 @@ pub mod values {
     };
 }
 
-/// Reading bytes: whole code, single instructions, items one behind another, and the parts of one. `laws` has that no bytes have two spellings, and
+/// Decoding: whole code, single instructions, consecutive items, and the parts of an instruction. `laws` states that no bytes have two spellings, and
 /// `reading_laws` that they have one reading.
 pub mod decoding {
     pub use code_items::{CodeItem, CodeItems, CodeIter, ReadError, read_items};
@@ -33,7 +32,7 @@ pub mod decoding {
     pub use step_count::Steps;
 }
 
-/// Where prefixes, opcode, ModRM, SIB, displacement and each immediate of an instruction stand in its bytes.
+/// Where prefixes, opcode, ModRM, SIB, displacement and each immediate lie in an instruction's bytes.
 pub mod parts {
     pub use decoder::byte_offsets::{ByteOffsets, Part, laws, offsets};
 }
@@ -48,7 +47,7 @@ pub mod encoding {
     };
 }
 
-/// Reading Intel texts: the instruction that a text stands for, and its bytes.
+/// Assembling: the instruction that an Intel text stands for, and its bytes.
 pub mod assembling {
     pub use intel_reader::{TextError, assemble, laws, read_intel};
 }
@@ -96,8 +95,8 @@ pub mod rows {
     pub use text_rows::row_lines::{laws as notation_laws, notation_of, row_line};
 }
 
-/// Moving code to other addresses: `move_code` takes bytes, `move_items` what was read of them, and the others instructions that some bytes spell.
-/// Below them stand the plan of branches and its least layout; a `Branch` has its choices in an `ArrayVec`.
+/// Moving code to other addresses. `move_code` takes bytes, `move_items` decoded instructions, and the other calls instructions that some bytes
+/// spell. The plan of branches and its least layout are exported too; a `Branch` has its choices in an `ArrayVec`.
 pub mod moving {
     pub use arrayvec::ArrayVec;
     pub use block_encoder::{
@@ -128,8 +127,8 @@ pub mod slots {
     };
 }
 
-/// Listings of any input, a line at a time, and the ports that they go between: over memory, over the readers and writers of std, and for tests. `laws`
-/// speaks of the ways through a source, `sweep_laws` of the items of some bytes.
+/// Listings of any input, line by line, and the ports that they connect: over memory, over the readers and writers of std, and for tests. `laws` is
+/// about the streams, `sweep_laws` about the items of some bytes.
 pub mod streams {
     pub use byte_ports::{
         CountSink, FailAt, Failed, MakeError, MemSink, MemSource, ReaderSource, Sink, SlowSource,

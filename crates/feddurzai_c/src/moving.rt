@@ -32,11 +32,11 @@ pub extern "C" fn feddurzai_move(
     moving::move_code(alloc, bits, old, bytes, new, out, map, report)
 }
 
-/// Moves code from the address `old` to the address `new` and keeps every target: a branch and an operand at RIP or EIP reach what they reached, even if that
-/// is one of the moved instructions. Answer, report and refusals are those of `feddurzai_move`.
+/// Moves code from the address `old` to the address `new` and keeps every target: each branch and each RIP or EIP operand reaches its old target,
+/// also if that is one of the moved instructions. Result, report and refusals are those of `feddurzai_move`.
 ///
-/// So an instruction that is moved alone does there what it did at its old place, even if it branches to itself, and a jump to the old end that follows some
-/// code is a jump back.
+/// So a moved instruction does at its new place exactly what it did at the old one, even if it branches to itself, and a jump to the old end, placed
+/// after some code, is a jump back.
 #[unsafe(no_mangle)]
 pub extern "C" fn feddurzai_move_outside(
     alloc: Global,
@@ -53,19 +53,21 @@ pub extern "C" fn feddurzai_move_outside(
     moving::move_outside(alloc, bits, old, bytes, new, out, map, report)
 }
 
-/// Moves several blocks of code at once, each to an address of its own: every branch and every operand at RIP or EIP still reaches what it reached, or follows
-/// it if that is an instruction of any of the blocks. It returns 0.
+/// Moves several blocks of code at once, each to its own address. Each branch and each RIP or EIP operand still reaches its target, or follows it if
+/// that is an instruction of any of the blocks. It returns 0.
 ///
-/// A block has an old and a new address, and its bytes are the `len` of `bytes` from `offset` on; blocks may overlap there. A target follows the instruction of
-/// the same block that began there, otherwise the first one of another block. `out` receives the moved blocks one after another, each with its slots. `places`
-/// receives for each block where it ends there, its number of bytes before the gap and its slots, and its number of instructions; `map` an entry for each
-/// instruction, block by block. `report` receives the numbers of bytes and of instructions, also if a buffer is too small; or the numbers of the refusal.
+/// A block has an old and a new address, and its bytes are the `len` bytes of `bytes` at `offset`; blocks may overlap there. A target follows the
+/// instruction of the same block that starts there, otherwise the first one of another block. `out` receives the moved blocks one after another, each
+/// with its slots. `places` receives for each block its end there, its number of bytes before the gap and its slots, and its number of instructions;
+/// `map` receives an entry for each instruction, block by block. `report` receives the numbers of bytes and of instructions, also if a buffer is too
+/// small, or the numbers of the refusal.
 ///
-/// These are `Mode`; `TooLarge` above 65,536 blocks or 1,048,576 bytes together. For the first block that is not read, with its number: `Block` if it is not
-/// inside the bytes, `Wraps` if it ended past the address space, with this end modulo 2 to the 64, `Invalid` or `TooShort` with the offset in it. Then
-/// `TooMany` (above 65,536) with the number of instructions; `Wraps` with the new end past the address space and, in place of a block's number, the number of
-/// blocks; `TooFar` with the block, the number of the instruction in it and its target; and `Room`. `Memory` may replace any of those after `TooLarge`. Buffers
-/// are unchanged after what is written and after a refusal. The call allocates from the C library, and frees what it took.
+/// Refusals: `Mode`; `TooLarge` above 65,536 blocks or 1,048,576 bytes together. For the first block that cannot be decoded, with its number: `Block`
+/// if it is not inside the bytes, `Wraps` if it ended past the address space, with this end modulo 2^64, `Invalid` or `TooShort` with the offset in
+/// it. Then `TooMany` (above 65,536) with the number of instructions; `Wraps` with the new end past the address space and, in place of a block's
+/// number, the number of blocks; `TooFar` with the block, the number of the instruction in it and its target; and `Room`. `Memory` may replace any of
+/// those after `TooLarge`. Bytes of the buffers after the results, and all of them after a refusal, do not change. The call allocates from the C
+/// library, and frees what it allocated.
 #[unsafe(no_mangle)]
 pub extern "C" fn feddurzai_move_blocks(
     alloc: Global,

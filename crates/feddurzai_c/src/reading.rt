@@ -20,12 +20,12 @@ pub extern "C" fn feddurzai_decode(bits: u32, ip: u64, bytes: &[u8], instr: &mut
     decoding::decode(bits, ip, bytes, instr)
 }
 
-/// Reads many instructions: the items of a sweep over some bytes, as many as the buffer has structs for, 67,108,864 at most. It returns how many bytes they
-/// take, and `count` receives how many items there are.
+/// Decodes many instructions: the items of a sweep over some bytes, as many as the buffer has structs for, 67,108,864 at most. It returns how many
+/// bytes they take, and `count` receives the number of items.
 ///
-/// An item is an instruction with its length. If none starts there, the item is a single byte: a struct of zeros with the length 1 and the code 0xffff for
-/// `Invalid` or 0xfffe for `TooShort`. `ip` is the address of the first byte; addresses are taken modulo 2 to the number of bits of the mode. The buffer is
-/// unchanged after the items. The refusal is `Mode`; the buffer and `count` are then unchanged.
+/// An item is an instruction with its length. If none starts there, the item is a single byte: a struct of zeros with the length 1 and the code
+/// 0xffff for `Invalid` or 0xfffe for `TooShort`. `ip` is the address of the first byte; addresses wrap at the address size of the mode. The buffer
+/// does not change after the items. The refusal is `Mode`; it leaves the buffer and `count` unchanged.
 #[unsafe(no_mangle)]
 pub extern "C" fn feddurzai_decode_many(
     bits: u32,

@@ -5,13 +5,13 @@ ghost use Rattle.c_calls.specs.Regions.{IsFill, IsRelease, IsReserve};
 use c_calls::flat::{FlatLive, FlatRegion};
 use c_calls::region;
 
-/// Hands out a place for `len` bytes, rounded up to a multiple of 16: the start of the first gap, by address, that is long enough. It returns 0.
+/// Reserves `len` bytes, rounded up to a multiple of 16: the start of the first gap, by address, that is long enough. It returns 0.
 ///
-/// The caller keeps the region: its first address, its size, and the number of live blocks, which are the first elements of `blocks`, in ascending order of
-/// address. `place` receives the address, and the new block is inserted among the others. Refusals, in this order, each with nothing changed: `Region` if size,
-/// capacity and end are not those of a region (a size of 16 to 1,048,576, a multiple of 16; room for 1 to 65,536 blocks; an end at 2 to the 64 or before), or
-/// the live blocks are not inside it, in order, without an overlap, each a multiple of 16 bytes after the base and with a length that is a multiple of 16;
-/// `Empty` for a length of 0; `Room` if all elements of the array are live blocks; `Full`.
+/// The caller keeps the region: its first address, its size, and the number of live blocks, which are the first elements of `blocks`, in ascending
+/// order of address. `place` receives the address, and the new block is inserted among the others. Refusals, in this order, each with nothing
+/// changed: `Region` if size, capacity and end are not those of a region (a size of 16 to 1,048,576, a multiple of 16; capacity for 1 to 65,536
+/// blocks; an end at or below 2^64), or the live blocks are not inside it, in order, without an overlap, each a multiple of 16 bytes after the base
+/// and with a length that is a multiple of 16; `Empty` for a length of 0; `Room` if all elements of the array are live blocks; `Full`.
 #[unsafe(no_mangle)]
 pub extern "C" fn feddurzai_region_reserve(
     region: &mut FlatRegion,

@@ -34,11 +34,12 @@ pub extern "C" fn feddurzai_encoded_len(bits: u32, ip: u64, instr: &FlatInstr) -
     encoding::encoded_len(bits, ip, instr)
 }
 
-/// Writes the bytes that an Intel text stands for at an address, and returns their number, 1 to 15.
+/// Assembles an Intel text at an address. Writes the bytes, and returns their number, 1 to 15.
 ///
-/// `ip` is the address of the first byte, modulo 2 to the number of bits of the mode. The text is one that `feddurzai_text` writes in Intel style, without a
-/// terminating 0. Among the instructions with this text that have a plain spelling there, it is the one with the shortest spelling, then the one with the least
-/// code, then the one with the least bytes. Refusals: `Mode`, `Text` exactly if there is none, `Room`, the first that applies; the buffer is then unchanged.
+/// `ip` is the address of the first byte; it wraps at the address size of the mode. The text must be one that `feddurzai_text` writes in Intel style,
+/// without a terminating 0. Among the instructions with this text that have a plain spelling there, it is the one with the shortest spelling, then
+/// the one with the lowest code, then the one with the lowest bytes. Refusals: `Mode`, `Text` exactly if there is none, `Room`, the first that
+/// applies; the buffer does not change then.
 #[unsafe(no_mangle)]
 pub extern "C" fn feddurzai_assemble(bits: u32, ip: u64, text: &[u8], out: &mut [u8]) -> i32
     ensures { IsAssembly bits ip text.now out.old out.new result }

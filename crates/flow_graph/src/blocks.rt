@@ -9,7 +9,7 @@ use decoder::DecodeError;
 use operand_info::Flow;
 use std::alloc::{AllocError, Global};
 
-/// The leader of an offset, where those of the offsets before it are given.
+/// Returns the leader of an offset, given the leaders of the offsets before it.
 fn leader_of(marks: &[u8], leaders: &[u32], offset: usize) -> u32
     requires few { length marks.now ≤ 16777216 }
     requires chained { AreChained marks.now }
@@ -35,7 +35,7 @@ pub(crate) struct Blocks {
 }
 
 impl Blocks {
-    /// Lists an offset behind those before it, if it is marked.
+    /// Appends an offset to the list, if it is marked.
     fn add(
         &mut self,
         marks: &[u8],
@@ -61,8 +61,7 @@ impl Blocks {
     }
 }
 
-/// Lists the marked offsets. The leader of a follower is known when its turn comes, since it follows the offset
-/// that it follows.
+/// Lists the marked offsets. The leader of a follower is known when its turn comes, since its predecessor has a lower offset.
 pub(crate) fn blocks_of(
     alloc: Global,
     marks: &[u8],

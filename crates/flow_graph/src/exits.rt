@@ -1,4 +1,4 @@
-//! Where control goes behind an instruction.
+//! Where control goes after an instruction.
 
 ghost use Rattle.std.specs.Prelude.{◌≡◌, ◌+◌, ◌<◌, ◌≤◌, length, Some, IsTrue, IfSome};
 ghost use Rattle.opcode_rows.specs.Allowed.{is_well_formed};
@@ -20,9 +20,9 @@ use x86_values::{Bits, Decoded, Instr};
 /// Where control goes after an instruction, as far as the code has bytes.
 #[derive(Clone, Copy)]
 pub struct Exits {
-    /// The length of the instruction where control goes to its end, else 0.
+    /// The length of the instruction if control goes to its end, else 0.
     pub next: u8,
-    /// The offset of its target, where that is another one than its end.
+    /// The offset of its target, if that is not its end.
     pub target: Option<usize>,
 }
 
@@ -77,7 +77,7 @@ fn target_offset(bits: Bits, base: u64, flow: Flow, instr: &Instr) -> Option<u64
     }
 }
 
-/// The length of an instruction where control goes to its end, before the end of the code.
+/// Returns the length of an instruction if control goes to its end, and that lies inside the code.
 #[tactic(auto, unfolding(crate::specs::Exits::next_exit))]
 fn next_exit(goes_on: bool, target: Option<u64>, end: usize, len: u8, count: usize) -> u8
     ensures value { result ≡ spec.next_exit goes_on target end len count }
@@ -94,7 +94,7 @@ fn next_exit(goes_on: bool, target: Option<u64>, end: usize, len: u8, count: usi
     }
 }
 
-/// The target where that is not the end of the instruction, before the end of the code.
+/// Returns the target if it is not the end of the instruction and lies inside the code.
 #[tactic(auto, unfolding(crate::specs::Exits::target_exit))]
 fn target_exit(target: Option<u64>, end: usize, count: usize) -> Option<usize>
     ensures value { result ≡ spec.target_exit target end count }
@@ -106,7 +106,7 @@ fn target_exit(target: Option<u64>, end: usize, count: usize) -> Option<usize>
     }
 }
 
-/// Where control goes from an instruction at an offset.
+/// Returns where control goes from an instruction at an offset.
 fn exits_of(
     bits: Bits,
     base: u64,
@@ -130,7 +130,7 @@ fn exits_of(
     }
 }
 
-/// What is read at an offset, and where control goes from it.
+/// Returns what starts at an offset, and where control goes from it.
 pub(crate) fn stop_at(bits: Bits, base: u64, bytes: &[u8], offset: usize) -> Stop
     requires inside { offset < length bytes.now }
     requires few { length bytes.now ≤ 16777216 }

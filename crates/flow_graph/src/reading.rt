@@ -9,7 +9,7 @@ use decoder::reading_laws::wrapped_addresses_read_alike;
 use decoder::{DecodeError, decode_in};
 use x86_values::{Bits, Decoded, wrap};
 
-/// Reads the bytes that stand from an offset on, in code whose first byte has the address `base`. Addresses wrap in the mode.
+/// Decodes the bytes at an offset of code whose first byte has the address `base`. Addresses wrap in the mode.
 pub(crate) fn read_at(
     bits: Bits,
     base: u64,

@@ -16,7 +16,7 @@ use x86_values::Bits;
 /// The mark of an offset that control reaches, unless it follows an instruction of `n` bytes, whose mark is `n` more.
 pub(crate) const LEADER: u8 = 1;
 
-/// The mark that the end of an instruction has behind the first arrival, from there.
+/// Returns the mark that the end of an instruction gets on the first arrival from there.
 fn mark_of_end(exits: Exits) -> u8
     requires { exits.next ≤ 15 }
     ensures { result ≡ spec.mark_of_end exits.target exits.next }
@@ -27,18 +27,17 @@ fn mark_of_end(exits: Exits) -> u8
     }
 }
 
-/// What was reached: a mark for each byte, 0 where it was not reached; what was read there; and the offsets in the order of the first
-/// arrivals.
+/// The reached offsets: a mark for each byte, 0 if it is not reached; what starts there; and the offsets in the order of the first arrivals.
 #[derive(Drop)]
 pub(crate) struct Walk {
     pub(crate) marks: Vec<u8>,
-    /// For each byte; of one that was not reached it tells nothing.
+    /// For each byte; meaningless for a byte that is not reached.
     pub(crate) flows: Vec<Result<Flow, DecodeError>>,
     order: Vec<u32>,
 }
 
 impl Walk {
-    /// A walk that stands at the first offsets, in their order.
+    /// Starts a walk at the entries, in their order.
     fn start(alloc: Global, count: usize, entries: &[u32]) -> Result<Walk, AllocError>
         requires few { count ≤ 16777216 }
         ensures entered { IfOk result (λ walk. IsStarted entries.now count (length entries.now) walk.marks.items walk.order.items) }
@@ -85,7 +84,7 @@ impl Walk {
         Ok(())
     }
 
-    /// Goes from an offset to the end of its instruction, where control goes there.
+    /// Continues from an offset to the end of its instruction, if control goes there.
     fn go_on(&mut self, offset: usize, exits: Exits) -> Result<(), AllocError>
         requires inside { 0 < exits.next → offset + exits.next < length self.old.marks.items }
         requires few { length self.old.marks.items ≤ 16777216 }

@@ -28,7 +28,7 @@ pub(crate) trait FieldSource {
     fn kind_number(&self) -> usize
         ensures { result ≡ map_number (fields self.now).vex (fields self.now).map };
 
-    /// The number of the root: 0 with a byte behind the opcode byte, 1 without one.
+    /// Returns the number of the root: 0 with a byte after the opcode byte, 1 without one.
     fn root_number(&self) -> u16
         ensures { result ≡ root_of (fields self.now).modrm };
 
@@ -41,7 +41,7 @@ pub(crate) trait FieldSource {
         ensures { result ≡ field_at bits split (fields self.now) };
 }
 
-/// The front of an instruction, and the byte behind its opcode byte, in the mode `BITS`.
+/// The front of an instruction, and the byte after its opcode byte, in the mode `BITS`.
 #[derive(Drop)]
 pub(crate) struct Front<'a, const BITS: u32> {
     pub state: &'a PrefixState,
@@ -119,7 +119,7 @@ impl<'a, const BITS: u32> FieldSource for Given<'a, BITS> {
     }
 }
 
-/// The root for fields with a byte behind the opcode byte, and the root for fields without one.
+/// Returns the root for fields with a byte after the opcode byte, or the root for fields without one.
 #[inline]
 fn number_of_root(byte: Option<u8>) -> u16
     ensures { result ≡ root_of byte }

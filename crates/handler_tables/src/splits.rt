@@ -15,7 +15,7 @@ use prefixes::mode_of;
 use row_lists::row_fields::{Fields, Map, Rep};
 use x86_values::Bits;
 
-/// The number of what a node splits by, from a front and the byte behind its opcode byte.
+/// Returns the number of the field by which a node splits, from a front and the byte after its opcode byte.
 // Not built into the walk: there each of these numbers would be made before the first node, and most walks need one or two.
 #[inline(never)]
 #[tactic(auto, unfolding(opcode_rows::specs::UniqueSpelling::FieldsOf::fields_of))]
@@ -78,7 +78,7 @@ pub(crate) fn front_size_field<const BITS: u32>(
     }
 }
 
-/// The number of the operand size by the prefixes and the mode alone.
+/// Returns the number of the operand size, from the prefixes and the mode only.
 // Not built into the walk either, as it would be made before the first node.
 #[inline(never)]
 fn state_size_number<const BITS: u32>(state: &PrefixState) -> usize
@@ -191,7 +191,7 @@ fn size_number(size: Bits) -> usize
     }
 }
 
-/// The operand size by the prefixes and the mode alone: W gives 64 in 64-bit mode, 66 the other of 16 and 32.
+/// Returns the operand size, from the prefixes and the mode only: W gives 64 in 64-bit mode, 66 the other one of 16 and 32.
 fn plain_size(bits: Bits, size66: bool, w: bool) -> Bits
     ensures { result ≡ plain_size bits size66 w }
 {
@@ -204,7 +204,7 @@ fn plain_size(bits: Bits, size66: bool, w: bool) -> Bits
     }
 }
 
-/// The ModRM byte, or 0 where there is none.
+/// Returns the ModRM byte, or 0 if there is none.
 fn byte_number(byte: Option<u8>) -> u8
     ensures { result ≡ byte_of byte }
 {

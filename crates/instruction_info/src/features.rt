@@ -135,7 +135,7 @@ pub fn used_features(instr: &Instr) -> Features
     }
 }
 
-/// Whether a row stands at a place that is kept for hints: 0F 0D and 0F 18 to 0F 1F.
+/// Returns whether a row belongs to an opcode that is reserved for hints: 0F 0D and 0F 18 to 0F 1F.
 #[inline]
 fn is_hint(row: &Row) -> bool
     ensures { result ≡ spec.is_hint (Some row.now) }

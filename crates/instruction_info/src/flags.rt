@@ -76,7 +76,7 @@ pub struct FlagUse {
     pub cleared: FlagSet,
     /// Those of `written` that become 1.
     pub set: FlagSet,
-    /// Those that the manual leaves undefined behind it.
+    /// The flags that the manual leaves undefined after it.
     pub undefined: FlagSet,
     /// Those of `written` and `undefined` that some instructions of the row leave as they were: by a count of 0, or by a privilege that is missing.
     pub kept: FlagSet,

@@ -1,7 +1,8 @@
-//! What an instruction touches besides the operands that it names: registers and memory that are implied, flags, and the CPUID features that it
-//! uses and needs (Intel SDM volume 2, chapters 3 to 5: the operation, the flags affected and the feature flag of each instruction).
+//! What an instruction touches besides the operands that it names: implied registers and memory, flags, and the CPUID features that it uses and needs
+//! (Intel SDM volume 2, chapters 3 to 5: the operation, the flags affected and the feature flag of each instruction).
 //!
-//! What the manual's pages say stands in crates/row_entries/data, by name; docs/instruction-info.md says how it is read, and what was chosen.
+//! crates/row_entries/data has the statements of the manual's pages, by name. docs/instruction-info.md explains how to read them, and what was
+//! chosen.
 #![tactic(auto)]
 
 mod effect;

@@ -49,7 +49,8 @@ impl Default for MemoryUse {
 /// At most four uses of memory.
 type Uses = ArrayVec<MemoryUse, 4>;
 
-/// The segment of an address whose default segment is given: the one that a prefix names, of which in 64-bit mode FS and GS alone count.
+/// Returns the segment of an address with a given default segment: the segment that a prefix names (in 64-bit mode only FS and GS), or else the
+/// default.
 fn segment_with(setting: Setting, default: Segment) -> Segment
     ensures { result ≡ spec.segment_with setting default }
 {

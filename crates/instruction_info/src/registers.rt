@@ -64,8 +64,8 @@ fn loads_scalar(row: &Row) -> bool
     }
 }
 
-/// Whether the form of an instruction replaces what the columns have as read and written: MOVSS and MOVSD from memory write 0 to the rest of their
-/// destination, which a move between registers keeps (Intel SDM volume 2, MOVSS and MOVSD).
+/// Returns whether the form of an instruction writes an operand that the columns give as read and written. MOVSS and MOVSD from memory write 0 to the
+/// rest of their destination, which a move between registers keeps (Intel SDM volume 2, MOVSS and MOVSD).
 #[inline]
 #[tactic(auto, unfolding(crate::specs::Registers::replaces))]
 fn replaces(instr: &Instr) -> bool
@@ -107,7 +107,7 @@ fn push_named(uses: &mut Uses, replaced: bool, named: &[RegUse])
     }
 }
 
-/// Whether a segment register counts in an address: in 64-bit mode FS and GS alone (Intel SDM volume 1, 3.4.2.1).
+/// Returns whether a segment register is used in an address: in 64-bit mode only FS and GS (Intel SDM volume 1, 3.4.2.1).
 fn counts(bits: Bits, segment: Segment) -> bool
     ensures { result ≡ spec.counts bits segment }
 {
@@ -118,7 +118,7 @@ fn counts(bits: Bits, segment: Segment) -> bool
     }
 }
 
-/// What is done to the segment register of memory to which this is done: it is read, under a condition where all of that is under one.
+/// Returns the access to the segment register of memory with a given access: it is read, conditionally if the whole access is conditional.
 fn segment_access(access: AccessKind) -> AccessKind
     ensures { result ≡ spec.segment_access access }
 {
@@ -130,7 +130,7 @@ fn segment_access(access: AccessKind) -> AccessKind
     }
 }
 
-/// Appends the segment register of some memory, where it counts.
+/// Appends the segment register of some memory, if it is used.
 fn push_segment(uses: &mut Uses, bits: Bits, memory: MemoryUse)
     requires { array_vec_len uses.old < 32 }
     ensures items { uses.new.items ≡ uses.old.items ++ spec.segment_use bits memory }
@@ -171,7 +171,7 @@ fn is_there(bits: Bits, group: RegisterGroup, n: u8) -> bool
     }
 }
 
-/// Appends an implied register, where the mode has it.
+/// Appends an implied register, if the mode has it.
 fn push_register(uses: &mut Uses, setting: Setting, one: ImpliedRegister)
     requires { array_vec_len uses.old < 32 }
     ensures items { uses.new.items ≡ uses.old.items ++ spec.implied_use setting one }
@@ -201,7 +201,8 @@ fn push_registers(uses: &mut Uses, setting: Setting, implied: &[ImpliedRegister]
     }
 }
 
-/// Appends the counter of a repeat prefix, CX, ECX or RCX by the address size, where one repeats: it is read, and written where it was not 0.
+/// Appends the counter of a repeat prefix (CX, ECX or RCX by the address size) if one repeats the instruction: it is read, and written if it was not
+/// 0.
 fn push_counter(uses: &mut Uses, setting: Setting)
     requires { array_vec_len uses.old < 32 }
     ensures { uses.new.items ≡ uses.old.items ++ spec.counter_use setting }

@@ -1,4 +1,4 @@
-//! What the implied registers and addresses of an instruction go by.
+//! What determines the implied registers and addresses of an instruction.
 
 ghost use Rattle.std.specs.Prelude.{◌≡◌, ◌<◌, slice_get};
 ghost use Rattle.opcode_rows.specs.Table.{table};
@@ -20,7 +20,7 @@ pub struct Setting {
     pub repeated: bool,
 }
 
-/// The operand size that a row asks for; 32 where it asks for none.
+/// Returns the operand size that a row requires, or 32 if it requires none.
 #[inline]
 fn operand_size(size: Size) -> Bits
     ensures { result ≡ spec.named_operand_size size }

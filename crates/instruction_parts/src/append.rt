@@ -1,4 +1,4 @@
-//! Bytes behind bytes, where there is room for them.
+//! Appending bytes that fit.
 
 ghost use Rattle.std.specs.Prelude.{◌≡◌, ◌≤◌, ◌+◌, ◌++◌, length};
 ghost use Rattle.arrayvec.specs.ArrayVec.{array_vec_len};

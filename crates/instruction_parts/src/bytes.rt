@@ -83,7 +83,7 @@ fn state_of_rex(rex: Option<u8>, used: u8, vex: Option<Vex>, map: Map, opcode: u
     }
 }
 
-/// Writes the state of a front behind any prefixes to `out`.
+/// Writes the state of a front after any prefixes to `out`.
 #[inline(never)]
 #[tactic(auto, unfolding(crate::specs::Bytes::state_from))]
 fn state_behind(

@@ -1,5 +1,4 @@
-//! What each operand kind says: where the operand is read, which registers it names, how much
-//! memory it has.
+//! Properties of each operand kind: where the operand is read from, which registers it names, how much memory it has.
 
 ghost use Rattle.std.specs.Prelude.{◌≡◌};
 ghost use Rattle.instruction_parts.specs.Kinds.{method_of, file_of, memory_width, immediate_width, fixed_number, IsShort};
@@ -29,9 +28,9 @@ pub enum Method {
     LastByte,
     /// Memory by r/m, whose index is a vector register.
     Gather,
-    /// Memory at an absolute address behind the opcode byte.
+    /// Memory at an absolute address after the opcode byte.
     Offset,
-    /// An immediate as it is written.
+    /// An immediate as encoded.
     AsWritten,
     /// An immediate, sign-extended to the operand size.
     Extended,
@@ -56,7 +55,7 @@ pub enum File {
     OperandSize,
     /// General registers of 16 bits at operand size 16, else of 32.
     WordOrDword,
-    /// General registers of 64 bits where W is 1, else of 32.
+    /// General registers of 64 bits if W is 1, else of 32.
     ByW,
     /// General registers of 64 bits in 64-bit mode, else of 32.
     Native,

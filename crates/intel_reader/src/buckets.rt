@@ -27,7 +27,7 @@ fn bucket(name: &[u8]) -> u16
     bucket
 }
 
-/// Where a bucket begins.
+/// Returns the start of a bucket.
 fn start_at(bucket: u16) -> u16
     requires { bucket < 1025 }
     ensures { slice_get starts bucket ≡ Some result }

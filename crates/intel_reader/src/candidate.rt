@@ -129,7 +129,7 @@ fn segment_or(words: OperandText, other: Option<Segment>) -> Option<Segment>
     }
 }
 
-/// The segment in front of the first address, or the one that stands as a word where there is no address.
+/// Returns the segment before the first address, or the segment that is a separate word if there is no address.
 #[tactic(auto, unfolding(crate::specs::Candidate::segment_from))]
 fn segment_from(words: &IntelWords) -> Option<Segment>
     ensures { result ≡ spec.segment_from words.now }

@@ -38,7 +38,7 @@ pub struct Found {
     pub bytes: ArrayVec<u8, 15>,
 }
 
-/// Which of two comes first: that of fewer bytes, then of the lesser code, then of the lesser bytes.
+/// Returns which of two comes first: the one with fewer bytes, then with the lower code, then with the lower bytes.
 fn order_of(a: &Found, b: &Found) -> Ordering
     ensures { result ≡ compare_assemblies (assembly_of a.now) (assembly_of b.now) }
 {
@@ -48,7 +48,7 @@ fn order_of(a: &Found, b: &Found) -> Ordering
     lengths.then(codes.then(bytes))
 }
 
-/// Whether what was found before comes behind another, or nothing was found.
+/// Returns whether another candidate comes before the best so far, or there is none yet.
 fn gives_way(best: &Option<Found>, other: &Found) -> bool
     ensures kept { result ≡ true → (b : Assembly) → LeadsChoice best.now b → LeadsChoice (Some other.now) b }
     ensures stays { result ≡ false → LeadsChoice best.now (assembly_of other.now) }
@@ -62,7 +62,7 @@ fn gives_way(best: &Option<Found>, other: &Found) -> bool
     }
 }
 
-/// Puts another in the place of what was found before, where it comes first.
+/// Replaces the best so far by another candidate, if that comes first.
 fn keep_first(best: &mut Option<Found>, other: Found)
     ensures one { (best.new ≡ best.old) ⊎ (best.new ≡ Some other) }
     ensures kept { (b : Assembly) → LeadsChoice best.old b → LeadsChoice best.new b }
@@ -73,7 +73,7 @@ fn keep_first(best: &mut Option<Found>, other: Found)
     }
 }
 
-/// Whether an instruction of a code with so many bytes or more comes behind what was found.
+/// Returns whether an instruction with a code and at least so many bytes comes after the best so far.
 #[tactic(auto, unfolding(crate::specs::Lengths::is_behind))]
 fn is_behind(best: &Option<Found>, code: Code, least: u8) -> bool
     ensures { result ≡ is_behind best.now code.0 least }
@@ -87,7 +87,7 @@ fn is_behind(best: &Option<Found>, code: Code, least: u8) -> bool
     }
 }
 
-/// The instruction with its bytes, where it has a plain spelling at the address and this text.
+/// Returns the instruction with its bytes, if it has a plain spelling at the address and this text.
 fn candidate_of(bits: Bits, ip: u64, text: &[u8], instr: Instr) -> Option<Found>
     ensures candidate { IfSome result (λ f. IsCandidate bits ip text.now (assembly_of f)) }
     ensures found { (b : Assembly) → IsCandidate bits ip text.now b → instr ≡ b.instr → MatchOption result ⊥ (λ f. assembly_of f ≡ b) }
@@ -189,7 +189,7 @@ fn with_row(
     with_sizes(best, bits, ip, text, row, code, words, Some(Bits::B64));
 }
 
-/// The best of what was found and the candidates of a code, where the words are those of each candidate of the text.
+/// Returns the best of the candidates so far and those of a code, given the words of the text.
 fn with_code(
     best: &mut Option<Found>,
     bits: Bits,
@@ -309,7 +309,7 @@ fn is_counter_word(word: &[u8]) -> bool
     word == b"jcxz".as_slice() || word == b"jecxz".as_slice() || word == b"jrcxz".as_slice()
 }
 
-/// The first of all candidates of a text, where the words and the name are those of each of them.
+/// Returns the first of all candidates of a text, given its words and its name.
 fn first_among(bits: Bits, ip: u64, text: &[u8], words: &IntelWords, word: &[u8]) -> Option<Found>
     requires read { (b : Assembly) (row : Row) → IsCandidate bits ip text.now b → slice_get table b.instr.code.0 ≡ Some row
         → words.now ≡ words_of bits row (name_of b.instr.code.0) b.instr }

@@ -1,7 +1,7 @@
 //! Intel texts, read as instructions: the exact inverse of the printer.
 //!
-//! A text stands for one instruction: of all those that have this text and a plain spelling of at most 15 bytes at the address, the one whose plain
-//! spelling is shortest; of these the one with the least code; of these the one with the least bytes.
+//! A text stands for one instruction. Of all instructions with this text and a plain spelling of at most 15 bytes at the address, it is the one with
+//! the shortest plain spelling, then with the lowest code, then with the lowest bytes.
 #![tactic(auto)]
 
 ghost use Rattle.std.specs.Prelude.{◌≡◌, ◌↔◌, IfOk, IsErr, IsTrue};

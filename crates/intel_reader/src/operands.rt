@@ -1,4 +1,4 @@
-//! Which operands the rows take, told apart by classes.
+//! The operands that rows take, distinguished by classes.
 
 ghost use Rattle.std.specs.Prelude.{◌≡◌, ℕ, ◌<◌, ◌^◌, if◌then◌else◌, Some, [], slice_get};
 ghost use Rattle.x86_values.specs.declared.Bits.{Bits};
@@ -129,7 +129,7 @@ fn flags_of(code: Code) -> u64
     OPERANDS[code.0 as usize]
 }
 
-/// Whether the row of a code exists in a mode and takes operands of four classes, which [`flags_of_classes`] made the flags of.
+/// Returns whether the row of a code exists in a mode and takes operands of four classes, given as the flags of [`flags_of_classes`].
 fn takes(code: Code, asked: u64) -> bool
     requires { code.0 < ROWS }
     ensures { (bits : Bits) (a b c d : OperandClass) (row : Row) → asked ≡ spec.number_of (spec.asked_flags bits a b c d)

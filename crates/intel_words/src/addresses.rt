@@ -1,4 +1,4 @@
-//! Reading what stands inside the brackets of an address.
+//! Reads what is inside the brackets of an address.
 
 ghost use Rattle.std.specs.Prelude.{◌≡◌};
 ghost use Rattle.intel_words.specs.ReadAddresses as spec;
@@ -40,7 +40,7 @@ fn signed_in(text: &[u8]) -> Option<Option<SignedText>>
     }
 }
 
-/// Registers, a scale and the displacement behind them.
+/// Reads registers, a scale and the displacement after them.
 #[inline]
 #[tactic(auto, unfolding(crate::specs::ReadAddresses::sum_with))]
 fn sum_with(
@@ -96,7 +96,7 @@ fn behind_index(base: Option<Register>, index: Option<Register>, text: &[u8]) ->
     }
 }
 
-/// An index behind a base.
+/// Reads an index after a base.
 #[inline]
 #[tactic(auto, unfolding(crate::specs::ReadAddresses::index_by))]
 fn index_by(base: Option<Register>, index: Option<Register>, text: &[u8]) -> Option<Inside>
@@ -108,8 +108,7 @@ fn index_by(base: Option<Register>, index: Option<Register>, text: &[u8]) -> Opt
     }
 }
 
-/// Behind the first register: a star where it is an index, a plus and a second register where it is a base, or the
-/// displacement.
+/// Reads what follows the first register: a star if it is an index, a plus and a second register if it is a base, or the displacement.
 #[tactic(auto, unfolding(crate::specs::ReadAddresses::sum_by))]
 fn sum_by(register: Option<Register>, text: &[u8]) -> Option<Inside>
     ensures { result ≡ spec.sum_by register text.now }
@@ -142,7 +141,7 @@ fn rel_by(eip: bool, target: Option<u64>) -> Option<Inside>
     }
 }
 
-/// A target behind `rel` or `rel32`.
+/// Reads a target after `rel` or `rel32`.
 #[tactic(auto, unfolding(crate::specs::ReadAddresses::relative_in))]
 fn relative_in(name: &[u8], text: &[u8]) -> Option<Inside>
     ensures { result ≡ spec.relative_in name.now text.now }

@@ -43,7 +43,7 @@ pub fn decimal_digit(c: u8) -> Option<u8>
     }
 }
 
-/// 10 to 15 by the digit behind the 1.
+/// Returns 10 to 15, given the digit after the 1.
 #[inline]
 #[tactic(auto, unfolding(crate::specs::ReadNumbers::teen))]
 fn teen(c: u8) -> Option<u8>

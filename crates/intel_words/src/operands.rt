@@ -40,7 +40,7 @@ fn size_named(name: &[u8]) -> Option<SizeName>
     }
 }
 
-/// An address of which the brackets are read.
+/// Returns an address whose brackets have been read.
 #[inline]
 #[tactic(auto, unfolding(crate::specs::ReadAddresses::address_by))]
 fn address_by(size: SizeName, seg: Option<Segment>, inside: Option<Inside>) -> Option<OperandText>
@@ -52,7 +52,7 @@ fn address_by(size: SizeName, seg: Option<Segment>, inside: Option<Inside>) -> O
     }
 }
 
-/// Brackets behind a segment.
+/// Reads brackets after a segment.
 #[tactic(auto, unfolding(crate::specs::ReadAddresses::address_at))]
 fn address_at(size: SizeName, seg: Option<Segment>, text: &[u8]) -> Option<OperandText>
     ensures { result ≡ spec.address_at size seg text.now }
@@ -81,7 +81,7 @@ fn address_in(size: SizeName, text: &[u8]) -> Option<OperandText>
     }
 }
 
-/// An address behind its size word.
+/// Reads an address after its size word.
 #[inline]
 #[tactic(auto, unfolding(crate::specs::ReadAddresses::sized_in))]
 fn sized_in(size: Option<SizeName>, text: &[u8]) -> Option<OperandText>

@@ -73,7 +73,7 @@ fn size_by(b: u8, c: u8) -> Option<Bits>
     }
 }
 
-/// The size behind a letter.
+/// Returns the size after a letter.
 #[inline]
 #[tactic(auto, unfolding(crate::specs::ReadWords::size_behind))]
 fn size_behind(letter: u8, name: &[u8]) -> Option<Bits>

@@ -16,7 +16,7 @@ use crate::prefixes::read_prefixes;
 use crate::scanning::{rest, split_operand, split_word};
 use crate::words::{IntelWords, NamedWords, OperandText};
 
-/// Four operands, where each could be read.
+/// Returns four operands, if each could be read.
 #[inline]
 #[tactic(auto, unfolding(crate::specs::ReadWords::four))]
 fn four(
@@ -33,7 +33,7 @@ fn four(
     }
 }
 
-/// The operands of a text behind the name and a space.
+/// Reads the operands of a text after the name and a space.
 #[tactic(auto, unfolding(crate::specs::ReadWords::operands_in))]
 fn operands_in(text: &[u8]) -> Option<[OperandText; 4]>
     ensures { result ≡ spec.operands_in text.now }

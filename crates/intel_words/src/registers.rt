@@ -7,7 +7,7 @@ use crate::numbers::decimal_in;
 use crate::scanning::{first, rest};
 use x86_values::{Register, Segment};
 
-/// The segment of which this is the first letter.
+/// Returns the segment with this first letter.
 #[inline]
 #[tactic(auto, unfolding(crate::specs::ReadRegisters::segment_by))]
 fn segment_by(a: u8) -> Option<Segment>
@@ -126,7 +126,7 @@ fn two_letters(a: u8, b: u8) -> Option<Register>
     }
 }
 
-/// A name of letters alone without the `e` or `r` of a larger register, behind its first letter.
+/// Returns the register of a name of letters without the `e` or `r` of a larger register, given what follows its first letter.
 #[tactic(auto, unfolding(crate::specs::ReadRegisters::register_of_letters))]
 fn register_of_letters(a: u8, more: &[u8]) -> Option<Register>
     ensures { result ≡ spec.register_of_letters a more.now }
@@ -142,7 +142,7 @@ fn register_of_letters(a: u8, more: &[u8]) -> Option<Register>
     }
 }
 
-/// A name that begins with `e`, behind it.
+/// Returns the register of a name that begins with `e`, given the rest.
 #[tactic(auto, unfolding(crate::specs::ReadRegisters::e_named))]
 fn e_named(more: &[u8]) -> Option<Register>
     ensures { result ≡ spec.e_named more.now }
@@ -176,7 +176,7 @@ fn sized_by(letter: u8, number: Option<u8>) -> Option<Register>
     }
 }
 
-/// A name that begins with `r`, behind it.
+/// Returns the register of a name that begins with `r`, given the rest.
 #[tactic(auto, unfolding(crate::specs::ReadRegisters::r_named))]
 fn r_named(more: &[u8]) -> Option<Register>
     ensures { result ≡ spec.r_named more.now }
@@ -199,7 +199,7 @@ fn r_named(more: &[u8]) -> Option<Register>
     }
 }
 
-/// The number behind `mm`.
+/// Reads the number after `mm`.
 #[inline]
 #[tactic(auto, unfolding(crate::specs::ReadRegisters::vector_number))]
 fn vector_number(text: &[u8]) -> Option<u8>
@@ -212,7 +212,7 @@ fn vector_number(text: &[u8]) -> Option<u8>
     }
 }
 
-/// The register whose name has this first letter, and these bytes behind it.
+/// Returns the register whose name has this first letter and these bytes after it.
 #[tactic(auto, unfolding(crate::specs::ReadRegisters::register_from))]
 fn register_from(a: u8, more: &[u8]) -> Option<Register>
     ensures { result ≡ spec.register_from a more.now }

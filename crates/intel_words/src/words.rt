@@ -9,7 +9,7 @@ pub struct IntelWords {
     pub lock: bool,
     /// `repne` or `rep`.
     pub rep: Rep,
-    /// The segment that stands as a word of its own; one in front of brackets belongs to the address.
+    /// The segment that is a separate word; one before brackets belongs to the address.
     pub seg: Option<Segment>,
     /// The size of `a16`, `a32` or `a64`.
     pub asize: Option<Bits>,
@@ -48,7 +48,7 @@ pub struct AddressText {
     pub size: SizeName,
     /// The segment in front of the brackets.
     pub seg: Option<Segment>,
-    /// What stands inside the brackets.
+    /// What is inside the brackets.
     pub inside: Inside,
 }
 
@@ -73,9 +73,9 @@ pub enum SizeName {
 pub enum Inside {
     /// Nothing.
     Nothing,
-    /// A displacement alone, unsigned.
+    /// A displacement without a register, unsigned.
     Lone(u64),
-    /// A target behind `rel`, or behind `rel32` where the address is relative to EIP.
+    /// A target after `rel`, or after `rel32` if the address is relative to EIP.
     Rel { eip: bool, target: u64 },
     /// Registers, and perhaps a displacement.
     Sum(SumText),
@@ -88,7 +88,7 @@ pub struct SumText {
     pub base: Option<Register>,
     /// The register with a scale, or the second one.
     pub index: Option<Register>,
-    /// The number behind `*`.
+    /// The number after `*`.
     pub scale: Option<u8>,
     /// The displacement with its sign.
     pub disp: Option<SignedText>,

@@ -6,7 +6,7 @@ use std::env::{Env, FillError};
 /// How often the memory for a word is doubled at most.
 const DOUBLINGS: u32 = 40;
 
-/// A word in a buffer that has room for it, and its length; None behind the last word.
+/// Returns a word in a buffer that it fits, and its length; None after the last word.
 fn word_bytes<R: Env>(rt: &R, alloc: Global, number: usize) -> Result<Option<Vec<u8>>, AllocError> {
     let mut bytes = Vec::new(alloc);
     bytes.resize(64, 0)?;

@@ -1,4 +1,4 @@
-//! The program's one call: it does what the words of a command line ask for, between a source and two sinks.
+//! The program's one call: it executes the command that the words of a command line give, between a source and two sinks.
 #![tactic(auto)]
 
 pub mod asm_run;

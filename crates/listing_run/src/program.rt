@@ -114,7 +114,7 @@ fn move_whole<S: Source, K: Sink>(
     move_code(alloc, wanted, bits, &[block], source, out)
 }
 
-/// Does what a command asks for.
+/// Executes a command.
 fn answer<S: Source, K: Sink>(
     alloc: Global,
     command: Command,

@@ -1,4 +1,4 @@
-//! The command that shows the library at work on made code: it is listed and moved, and what comes of it is stated in six numbers.
+//! The command that shows the library at work on made code: it lists and moves the code, and reports the result in six numbers.
 
 mod generator;
 pub mod laws;

@@ -1,4 +1,4 @@
-//! Whether something can complete bytes that end behind the opcode byte or behind ModRM.
+//! Whether more bytes can complete bytes that end after the opcode byte or after ModRM.
 
 ghost use Rattle.std.specs.Prelude.{◌≡◌};
 ghost use Rattle.modrm_sib.specs.Parts as spec;
@@ -25,7 +25,7 @@ pub(crate) fn some_sib_fits(bits: Bits, row: &Row, state: &PrefixState, m: ModRm
     })
 }
 
-/// Whether the ModRM can follow the state, with some SIB where it takes one.
+/// Returns whether the ModRM can follow the state, with some SIB if it requires one.
 #[tactic(auto, unfolding(crate::specs::Parts::modrm_can_fit))]
 fn modrm_can_fit(bits: Bits, row: &Row, state: &PrefixState, m: ModRm) -> bool
     ensures { result ≡ spec.modrm_can_fit bits row.now state.now m }

@@ -1,4 +1,4 @@
-//! The tail of a row that is known to take what leads to it, with whatever SIB: nothing but lengths is asked.
+//! The tail of a row that fits its state and ModRM with any SIB: only lengths are tested.
 
 ghost use Rattle.std.specs.Prelude.{◌≡◌, ℕ, ◌<◌, ◌≤◌, true, false, IsTrue, IfSome, IsNone, Some, None, Ok};
 ghost use Rattle.modrm_sib.specs.Answer as spec;
@@ -25,9 +25,9 @@ const LONGEST: usize = 15;
 /// How far ModRM and SIB reach.
 #[derive(Clone, Copy)]
 struct Reach<'a> {
-    /// The bytes up to the rest.
+    /// The number of bytes before the rest.
     used: usize,
-    /// How many bytes of the rest are the displacement.
+    /// The number of displacement bytes in the rest.
     disp: usize,
     rest: &'a [u8],
 }
@@ -43,7 +43,7 @@ fn full_displacement(asize: Bits) -> usize
     }
 }
 
-/// Whether mod 0 has a displacement alone.
+/// Returns whether mod 0 encodes a displacement alone.
 #[inline(always)]
 #[tactic(auto, unfolding(row_fit::specs::Fits::is_displacement_alone))]
 fn is_alone(asize: Bits, m: ModRm, sib: Option<Sib>) -> bool
@@ -56,7 +56,7 @@ fn is_alone(asize: Bits, m: ModRm, sib: Option<Sib>) -> bool
         }
 }
 
-/// The bytes of the displacement that ModRM and SIB ask for.
+/// Returns the number of displacement bytes that ModRM and SIB require.
 #[inline(always)]
 #[tactic(auto, unfolding(row_fit::specs::Fits::displacement_bytes, row_fit::specs::Fits::is_displacement_alone))]
 fn displacement_size(asize: Bits, m: ModRm, sib: Option<Sib>) -> usize
@@ -71,7 +71,7 @@ fn displacement_size(asize: Bits, m: ModRm, sib: Option<Sib>) -> usize
     }
 }
 
-/// Reads ModRM, and the SIB where it takes one, where none stands yet; None where the bytes end.
+/// Reads ModRM, and the SIB if ModRM requires one; None if the bytes end.
 #[inline(always)]
 #[tactic(auto, unfolding(crate::specs::Answer::tail_answer, crate::specs::Answer::modrm_answer, crate::specs::Answer::behind_modrm_answer, crate::specs::Answer::sib_answer, crate::specs::Parts::takes_sib, crate::specs::Parts::displacement_len))]
 fn parts_into<'a>(
@@ -130,7 +130,7 @@ fn parts_into<'a>(
     }
 }
 
-/// What follows the opcode byte of an instruction of at most 15 bytes; None where none does. The instruction is written to `out`.
+/// Reads what follows the opcode byte of an instruction of at most 15 bytes, and writes the instruction to `out`; None if there is none.
 // The parts are put where they are to stand: in a struct that is handed on they would be packed into one another.
 #[inline(always)]
 #[tactic(auto, unfolding(crate::specs::Answer::rest_answer, crate::specs::Answer::fitting_answer))]

@@ -32,7 +32,7 @@ use x86_values::{Bits, Code, Decoded};
 /// Why no tail of a row is read from some bytes.
 #[derive(Clone, Copy, PartialEq, Eq, Debug, Error)]
 pub enum TailError {
-    /// The bytes end, and more bytes behind them make a spelling of the row.
+    /// The bytes end, and more bytes can complete a spelling of the row.
     #[error("the bytes end before the operands do")]
     Ended,
     /// No bytes that begin so are a spelling of the row.

@@ -1,4 +1,4 @@
-//! The parts behind an opcode byte, and when they fit a row.
+//! The parts after an opcode byte, and when they fit a row.
 
 ghost use Rattle.std.specs.Prelude.{◌≡◌, IsTrue};
 ghost use Rattle.modrm_sib.specs.Parts as spec;
@@ -88,7 +88,7 @@ fn lead_fits(bits: Bits, row: &Row, state: &PrefixState, m: Option<ModRm>) -> bo
         }
 }
 
-/// Whether the row takes this ModRM and SIB behind the state.
+/// Returns whether the row accepts this ModRM and SIB after the state.
 #[inline(always)]
 #[tactic(auto, unfolding(crate::specs::Parts::parts_fit))]
 pub(crate) fn parts_fit(

@@ -1,4 +1,4 @@
-//! The bytes behind the opcode byte, read part by part.
+//! Reads the bytes after the opcode byte, part by part.
 
 ghost use Rattle.std.specs.Prelude.{◌≡◌, ◌<◌, ◌≤◌, true, IsTrue, ℕ, IfOk, IfErr, Err};
 ghost use Rattle.x86_values.specs.declared.Decoded.{Decoded};
@@ -18,7 +18,7 @@ use row_fit::tail_fits::immediates_bytes;
 use row_meaning::operands::{Behind, instr_into};
 use x86_values::{Bits, Code, Decoded, wrap};
 
-/// The answer where the bytes end: whether something can complete them.
+/// Returns the error at the end of the bytes: whether more bytes can complete them.
 #[inline]
 fn at_end(can_go_on: bool) -> TailError
     ensures { spec.at_end can_go_on ≡ Err result }
@@ -122,12 +122,12 @@ pub(crate) fn has_modrm(row: &Row) -> bool
 pub(crate) struct Head<'a> {
     modrm: Option<ModRm>,
     sib: Option<Sib>,
-    /// The bytes up to the rest.
+    /// The number of bytes before the rest.
     used: u8,
     rest: &'a [u8],
 }
 
-/// ModRM, and the SIB where it takes one.
+/// Reads ModRM, and the SIB if ModRM requires one.
 // Where the bytes end, a copy of the row is handed on: so the row itself need not stand in memory.
 #[inline(always)]
 #[tactic(auto, unfolding(crate::specs::Answer::tail_answer, crate::specs::Answer::modrm_answer, crate::specs::Answer::behind_modrm_answer, crate::specs::Answer::sib_answer))]
@@ -187,7 +187,7 @@ fn head_of<'a>(
     }
 }
 
-/// What follows the opcode byte: ModRM, the SIB where it takes one, and the rest.
+/// Reads what follows the opcode byte: ModRM, the SIB if ModRM requires one, and the rest.
 #[inline(always)]
 pub(crate) fn read_tail(
     bits: Bits,

@@ -1,5 +1,4 @@
-//! The forms that a relative branch may take at a new place, and the instructions that each form stands for (Intel SDM volume 2, CALL, JMP, Jcc,
-//! LOOP).
+//! The forms that a relative branch can take at a new place, and the instructions of each form (Intel SDM volume 2, CALL, JMP, Jcc, LOOP).
 
 mod branch;
 mod choices;

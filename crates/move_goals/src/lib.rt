@@ -1,4 +1,4 @@
-//! The instructions that are moved, where their targets go, and the plan by which the forms of branches are chosen.
+//! The moved instructions, the goals of their targets, and the plan that selects the forms of branches.
 #![tactic(auto)]
 
 pub mod branch_forms;

@@ -1,4 +1,4 @@
-//! Where an instruction is aimed, and the same instruction aimed elsewhere (Intel SDM volume 2, 2.2.1.6; CALL, JMP, Jcc).
+//! The target of an instruction, and the same instruction with another target (Intel SDM volume 2, 2.2.1.6; CALL, JMP, Jcc).
 
 ghost use Rattle.std.specs.Prelude.{◌≡◌, ◌<◌, is_some};
 ghost use Rattle.operand_info.specs.Operands.{near_value, ip_value};
@@ -54,7 +54,7 @@ pub fn target_of(instr: &Instr) -> Option<u64>
     None
 }
 
-/// The operand with another target, where it is one.
+/// Returns the operand with another target, if it is one.
 #[inline]
 #[tactic(auto, unfolding(crate::specs::MovedTargets::Targets::aimed_operand, crate::specs::MovedTargets::Targets::aimed_base))]
 fn aimed_operand(operand: Operand, target: u64) -> Operand
@@ -87,7 +87,7 @@ pub fn with_target(instr: &Instr, target: u64) -> Instr
     }
 }
 
-/// What an operand reaches, where it is an address at RIP or EIP.
+/// Returns what an operand reaches, if it is an address at RIP or EIP.
 #[inline]
 #[tactic(auto, unfolding(crate::specs::MovedTargets::Targets::operand_reach, crate::specs::MovedTargets::Targets::base_reach))]
 fn operand_reach(operand: Operand) -> Option<Reach>

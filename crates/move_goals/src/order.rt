@@ -1,4 +1,4 @@
-//! Whether the items of each block stood one behind another, and where they ended.
+//! Whether the items of each block were consecutive, and where they ended.
 
 ghost use Rattle.std.specs.Prelude.{◌≡◌, ◌≤◌, ◌+◌, ◌-◌, ◌<◌, ◌==◌, if◌then◌else◌, length};
 ghost use Rattle.move_goals.specs.Items as spec;
@@ -7,14 +7,14 @@ use crate::items::Placed;
 use branch_sizes::BlockSpan;
 use x86_values::Bits;
 
-/// The address behind an item, which may lie behind the end of all addresses.
+/// Returns the address after an item, which may lie past the end of all addresses.
 fn old_end(item: &Placed) -> u128
     ensures { result ≡ spec.old_end item.now }
 {
     u128::from(item.ip) + u128::from(item.len)
 }
 
-/// Whether item `k` begins where the one before it ends.
+/// Returns whether item `k` begins where the previous one ends.
 fn follows(items: &[Placed], k: usize) -> bool
     requires later { 1 ≤ k }
     requires item { k < length items.now }
@@ -54,7 +54,7 @@ pub fn passes(bits: Bits, end: u128) -> bool
     end > 1 << width
 }
 
-/// The address behind the last item of a block, whose first item has the number `start`; the new base if the block is empty.
+/// Returns the address after the last item of a block whose first item has the number `start`; the new base if the block is empty.
 fn block_old_end(items: &[Placed], span: &BlockSpan, start: usize) -> u128
     requires { start + span.now.count ≤ length items.now }
     ensures { result ≡ (if span.now.count == 0 then span.now.new_base else spec.old_end (spec.item_at items.now (start + span.now.count - 1))) }

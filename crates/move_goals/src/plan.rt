@@ -19,7 +19,7 @@ use branch_sizes::{BlockSpan, Branch, Goal, Plan};
 use std::alloc::{AllocError, Global};
 use x86_values::{Bits, Instr};
 
-/// The one form of an item of which these bytes are ready; it has no goal.
+/// Returns the only form of an item with these ready bytes; it has no goal.
 fn ready_branch(bits: Bits, instr: &Instr, ready: &[u8]) -> Branch
     requires some { 0 < length ready.now }
     requires ready { IsIndependent bits instr.now ready.now }
@@ -61,7 +61,7 @@ fn branch_between(
     }
 }
 
-/// The items of the plan of some moved blocks, of which some bytes may be ready.
+/// Returns the items of the plan of some moved blocks, some of which may have ready bytes.
 fn branches_of(
     alloc: Global,
     bits: Bits,

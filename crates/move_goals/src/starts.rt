@@ -70,8 +70,8 @@ fn item_between(items: &[Placed], from: usize, to: usize, target: u64) -> Option
     None
 }
 
-/// Where a target goes: with the item that began there among those from `from` on, below `to`, else with the first item of all that did, else it
-/// stays.
+/// Returns the goal of a target: the item that starts there among those from `from` on, below `to`; or else the first item of all that starts there;
+/// or else the address.
 fn goal_between(items: &[Placed], starts: &Starts, from: usize, to: usize, target: u64) -> Goal
     requires few { length items.now ≤ 65536 }
     requires starts { to - from < length items.now → AreStartsBelow items.now (length items.now) starts.now }

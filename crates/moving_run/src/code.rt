@@ -18,7 +18,7 @@ use x86_values::Bits;
 /// The instructions of the blocks.
 #[derive(Drop)]
 pub struct Code {
-    /// The first of them, as many as are moved together at most. Each has its old address, where no block passes the address space.
+    /// The first of them, as many as can be moved together. Each has its old address if no block exceeds the address space.
     pub items: Vec<Placed>,
     /// How many each block has, and its new base.
     pub spans: Vec<BlockSpan>,
@@ -47,7 +47,7 @@ impl From<AllocError> for CodeError {
     }
 }
 
-/// The bytes of a block at the front of some bytes, and those behind them.
+/// Returns the bytes of a block at the front of some bytes, and the rest.
 fn cut(len: Option<u64>, bytes: &[u8]) -> (&[u8], &[u8])
     ensures block { result.0.now ≡ next_block_bytes len bytes.now }
     ensures rest { result.1.now ≡ left_by len bytes.now }
@@ -85,7 +85,7 @@ pub fn first_pass(bits: Bits, words: &[BlockWords], input: &[u8]) -> Option<u128
     None
 }
 
-/// Puts an instruction behind others, where these are fewer than are moved together.
+/// Appends an instruction to others, if they are fewer than can be moved together.
 fn keep(items: &mut Vec<Placed>, item: Placed) -> Result<(), AllocError>
     requires { vec_len items.old ≤ 65536 }
     ensures kept { OnOk result (items.new.items ≡ spec.first_items (items.old.items ++ item ∷ [])) }
@@ -97,7 +97,7 @@ fn keep(items: &mut Vec<Placed>, item: Placed) -> Result<(), AllocError>
     Ok(())
 }
 
-/// Reads the instructions of a block, whose first byte is the one of number `start` of the input, puts them behind `items`, and answers how many they are.
+/// Decodes the instructions of a block, whose first byte is byte `start` of the input, appends them to `items`, and returns their number.
 fn read_block(
     bits: Bits,
     base: u64,
@@ -138,7 +138,7 @@ fn read_block(
     Ok(count)
 }
 
-/// Puts a block behind others.
+/// Appends a block to others.
 fn add_span(spans: &mut Vec<BlockSpan>, count: u32, new_base: u64) -> Result<(), AllocError>
     ensures { OnOk result (spans.new.items ≡ spans.old.items ++ record { count = count; new_base = new_base } ∷ []) }
 {

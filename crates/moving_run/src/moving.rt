@@ -23,7 +23,7 @@ use x86_values::Bits;
 /// What is written of moved code.
 #[derive(Clone, Copy)]
 pub enum Wanted {
-    /// The bytes of the moved blocks, one behind another.
+    /// The bytes of the moved blocks, one after another.
     MovedBytes,
     /// A line for each instruction: its old and its new address and its form.
     MapLines,

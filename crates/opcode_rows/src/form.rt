@@ -26,7 +26,7 @@ pub fn well_formed(instr: &Instr) -> bool
     }
 }
 
-/// Whether all operands have the form that the row asks for.
+/// Returns whether all operands have the form that the row requires.
 #[tactic(auto, unfolding(crate::specs::Allowed::is_formed))]
 fn is_formed(row: &Row, instr: &Instr) -> bool
     ensures { result ≡ spec.is_formed row.now instr.now }
@@ -61,7 +61,7 @@ fn has_numbers(operand: Operand) -> bool
     }
 }
 
-/// Whether a register that may be absent exists where it is there.
+/// Returns whether an optional register, if present, exists.
 #[tactic(auto, unfolding(crate::specs::Allowed::is_named_if))]
 fn is_named_if(register: Option<Register>) -> bool
     ensures { result ≡ spec.is_named_if register }

@@ -1,7 +1,7 @@
 //! The opcode table: the rows of all crates in one order, by code and by cell (Intel SDM volume 2, appendix A).
 //!
-//! It grows at its end alone. The rows of version 1 have the codes below `VERSION1_ROWS`, and those of version 2 (FMA, F16C, AES, PCLMULQDQ)
-//! follow them; `laws` says that nothing else changed with them.
+//! It grows only at its end. The rows of version 1 have the codes below `VERSION1_ROWS`, and those of version 2 (FMA, F16C, AES, PCLMULQDQ) follow
+//! them. `laws` states that nothing else changed with them.
 #![tactic(auto)]
 
 mod by_name;
@@ -97,7 +97,7 @@ fn row_at(code: Code) -> Row
     spot_row(spot_at(code.0))
 }
 
-/// Where the row of a code lies.
+/// Returns where the row of a code lies.
 #[inline]
 fn spot_at(code: u16) -> Spot
     requires { code < ROWS }
@@ -106,7 +106,7 @@ fn spot_at(code: u16) -> Spot
     SPOTS[code as usize]
 }
 
-/// The row that lies at a spot.
+/// Returns the row at a spot.
 #[inline]
 fn spot_row(spot: Spot) -> Row
     requires { spot.at < length (part_table spot.part) }
@@ -120,7 +120,7 @@ fn spot_row(spot: Spot) -> Row
     }
 }
 
-/// The row that lies at a spot, by a call.
+/// Returns the row at a spot, by a call.
 #[inline(never)]
 fn any_row(spot: Spot) -> Row
     requires { spot.at < length (part_table spot.part) }
@@ -129,7 +129,7 @@ fn any_row(spot: Spot) -> Row
     spot_row(spot)
 }
 
-/// The row that lies at a spot, where the integer rows, which most are, are asked for first.
+/// Returns the row at a spot, and tests first for the integer rows, which are most frequent.
 #[inline]
 fn common_row(spot: Spot) -> Row
     requires { spot.at < length (part_table spot.part) }
@@ -141,14 +141,14 @@ fn common_row(spot: Spot) -> Row
     }
 }
 
-/// Where the rows of a cell lie: the code of the first, and how many there are.
+/// Returns where the rows of a cell lie: the code of the first, and their number.
 fn span_at(kind: RowKind, map: Map, opcode: u8) -> Span
     ensures { cell_span (table_spans kind) (map_index map) opcode ≡ Some result }
 {
     span_in(kind_spans(kind), map, opcode)
 }
 
-/// Where the rows of each cell of a kind lie.
+/// Returns where the rows of each cell of a kind lie.
 fn kind_spans(kind: RowKind) -> &'static [[Span; 256]; 4]
     ensures { result.now ≡ table_spans kind }
 {

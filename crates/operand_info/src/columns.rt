@@ -24,7 +24,7 @@ pub enum Flow {
     /// To a procedure that the instruction or the system names, and later to the next instruction: CALL to an offset or a far pointer, SYSCALL,
     /// SYSENTER.
     Call,
-    /// To a procedure whose address stands in a register or in memory, and later to the next instruction: the other CALLs.
+    /// To a procedure whose address is in a register or in memory, and later to the next instruction: the other CALLs.
     IndirectCall,
     /// To the handler of an interrupt: INT, INT1, INT3, INTO.
     Interrupt,

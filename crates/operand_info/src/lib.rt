@@ -1,5 +1,5 @@
-//! What an instruction does: where control goes behind it, what it reads and writes, and the addresses that it names (Intel SDM volume 2,
-//! chapters 3 to 5, the operand encoding and the operation of each instruction).
+//! What an instruction does: where control goes after it, what it reads and writes, and the addresses that it names (Intel SDM volume 2, chapters 3
+//! to 5, the operand encoding and the operation of each instruction).
 #![tactic(auto)]
 
 mod columns;

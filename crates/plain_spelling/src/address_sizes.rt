@@ -52,7 +52,7 @@ fn is_size_of(bits: Bits, row: &Row, instr: &Instr, asize: Bits) -> bool
         && !(is_16(asize) && reads_gather(row))
 }
 
-/// An address size stands exactly where an operand is memory or the row uses one without.
+/// Returns whether an address size is given exactly if an operand is memory or the row uses one without.
 #[inline(always)]
 #[tactic(auto, unfolding(crate::specs::Expressible::address_size_suits))]
 pub(crate) fn address_size_suits(bits: Bits, row: &Row, instr: &Instr) -> bool

@@ -1,5 +1,5 @@
-//! How an address is written: which base, index and scale have a ModRM and SIB, which displacements stand with them, and the fields of the
-//! plain one (tables 2-1 to 2-3 and 2-5).
+//! How an address is encoded: the base, index and scale of a ModRM and SIB, their displacements, and the fields of the plain encoding (Intel SDM
+//! volume 2, tables 2-1 to 2-3 and 2-5).
 
 ghost use Rattle.std.specs.Prelude.{◌≡◌, ◌≤◌};
 ghost use Rattle.row_meaning.specs.Meaning as meaning;
@@ -21,7 +21,7 @@ use x86_values::{Bits, DispSize, Mem, Register, same_bits, same_register};
 pub enum AddressForm {
     /// Relative to RIP or EIP, of this size (2.2.1.6).
     Relative(Bits),
-    /// A displacement alone.
+    /// A displacement without a register.
     Alone,
     /// A register or a sum of two in 16-bit addressing, by the number of its first register (table 2-1).
     Short(u8),
@@ -76,7 +76,7 @@ fn general_size(register: Register) -> Option<Bits>
     }
 }
 
-/// The size of a general register, where there is one.
+/// Returns the size of a general register, if it is one.
 fn general_size_if(register: Option<Register>) -> Option<Bits>
     ensures { result ≡ spec.general_size_if register }
 {
@@ -196,7 +196,7 @@ fn rm_of_two(base: u8, index: u8) -> Option<u8>
     }
 }
 
-/// The field rm of 16-bit addressing by the number of the first register and the second register, where there is one.
+/// Returns the field rm of 16-bit addressing, given the number of the first register and the optional second register.
 #[tactic(auto, unfolding(crate::specs::Addresses::rm_of_short))]
 fn rm_of_short(base: u8, index: Option<Register>) -> Option<u8>
     ensures { result ≡ spec.rm_of_short base index }
@@ -278,7 +278,7 @@ fn is_wide_shape(bits: Bits, memory: Mem) -> bool
     }
 }
 
-/// Whether ModRM can write base, index and scale: RIP and EIP stand alone and in 64-bit mode, 16-bit addressing elsewhere.
+/// Returns whether ModRM can encode base, index and scale: RIP and EIP without an index and in 64-bit mode, 16-bit addressing elsewhere.
 #[tactic(auto, unfolding(crate::specs::Addresses::is_shape))]
 fn is_shape(bits: Bits, memory: Mem) -> bool
     ensures { result ≡ spec.is_shape bits memory }
@@ -590,7 +590,7 @@ fn wide_fields(memory: Mem) -> AddressFields
     }
 }
 
-/// The fields of a displacement alone: rm 6 in 16-bit addressing, rm 5 in 32-bit modes, and a SIB in 64-bit mode, where rm 5 is relative.
+/// Returns the fields of a displacement alone: rm 6 in 16-bit addressing, rm 5 in 32-bit modes, and a SIB in 64-bit mode, where rm 5 is relative.
 #[tactic(auto, unfolding(crate::specs::Addresses::alone_fields))]
 fn alone_fields(bits: Bits, asize: Bits, memory: Mem) -> AddressFields
     ensures { result ≡ spec.alone_fields bits asize memory }
@@ -616,7 +616,7 @@ fn alone_fields(bits: Bits, asize: Bits, memory: Mem) -> AddressFields
     }
 }
 
-/// A number, 0 where there is none.
+/// Returns a number, or 0 if there is none.
 fn or_zero(n: Option<u8>) -> u8
     ensures { result ≡ spec.or_zero n }
 {

@@ -54,7 +54,7 @@ fn kind_suits(row: &Row, instr: &Instr, n: usize) -> bool
 
 // ---- 3. each register operand is one that its kind can name in the mode
 
-/// SPL to DIL and R8B to R15B exist in 64-bit mode alone (2.2.1.2).
+/// Returns whether a register exists in the mode: SPL to DIL and R8B to R15B exist only in 64-bit mode (Intel SDM volume 2, 2.2.1.2).
 #[tactic(auto, unfolding(crate::specs::Expressible::exists_in_mode))]
 fn exists_in_mode(bits: Bits, register: Register) -> bool
     ensures { result ≡ spec.exists_in_mode bits register }
@@ -134,7 +134,8 @@ fn is_not_nop(row: &Row, method: Method, register: Register) -> bool
     }
 }
 
-/// What a kind asks besides: a segment register that is written is not CS, the control registers that exist, a debug register without R.
+/// Returns whether a register meets the further conditions of a kind: a segment register that is written is not CS, control registers exist, a debug
+/// register has no R.
 #[tactic(auto, unfolding(crate::specs::Expressible::kind_allows))]
 fn kind_allows(bits: Bits, n: usize, kind: OpKind, register: Register) -> bool
     ensures { result ≡ spec.kind_allows bits n kind register }
@@ -147,7 +148,7 @@ fn kind_allows(bits: Bits, n: usize, kind: OpKind, register: Register) -> bool
     }
 }
 
-/// Whether a kind names general registers of operand size, and asks no more of them.
+/// Returns whether a kind names general registers of the operand size without further conditions.
 #[inline(always)]
 fn names_any_sized(kind: OpKind) -> bool
     ensures { result ≡ spec.names_any_sized kind }
@@ -194,9 +195,9 @@ fn is_nameable(
         && kind_allows(bits, n, kind, register)
 }
 
-/// Whether the register can be named as operand n, by the parts of the plain spelling.
+/// Returns whether the register can be named as operand `n`, given the parts of the plain spelling.
 ///
-/// The front is copied, so that the parts need not lie in memory where no operand comes here.
+/// The front is copied, so that the parts need not lie in memory if no operand gets here.
 #[inline(always)]
 fn is_nameable_under(
     bits: Bits,
@@ -214,7 +215,7 @@ fn is_nameable_under(
     is_nameable(bits, row, instr, &state, parts.size, n, register)
 }
 
-/// Whether operand n, where it is a register, is one that its kind can name.
+/// Returns whether operand `n`, if it is a register, is one that its kind can name.
 #[tactic(auto, unfolding(crate::specs::Expressible::register_suits))]
 fn register_suits(
     bits: Bits,
@@ -237,7 +238,7 @@ fn register_suits(
 
 // ---- 4. base, index and scale of each memory operand are a shape
 
-/// Whether operand n, where it is memory, has a base, index and scale that can be written.
+/// Returns whether operand `n`, if it is memory, has a base, index and scale that can be encoded.
 #[tactic(auto, unfolding(crate::specs::Expressible::address_suits))]
 fn address_suits(bits: Bits, row: &Row, instr: &Instr, n: usize) -> bool
     requires { n < 4 }
@@ -254,7 +255,7 @@ fn address_suits(bits: Bits, row: &Row, instr: &Instr, n: usize) -> bool
 
 // ---- 5. the shape offers the displacement
 
-/// Whether operand n, where it is memory, has a displacement that its shape offers.
+/// Returns whether operand `n`, if it is memory, has a displacement that its shape allows.
 #[tactic(auto, unfolding(crate::specs::Expressible::displacement_offered))]
 fn displacement_offered(bits: Bits, row: &Row, instr: &Instr, n: usize) -> bool
     requires { n < 4 }
@@ -272,7 +273,7 @@ fn displacement_offered(bits: Bits, row: &Row, instr: &Instr, n: usize) -> bool
 
 // ---- 6. each immediate is a value of its written size
 
-/// An immediate of n bytes: as it is written, or sign-extended to the operand size; `1` is not written.
+/// Returns whether an immediate fits `n` bytes: as encoded, or sign-extended to the operand size. The constant `1` is not encoded.
 #[inline(always)]
 #[tactic(auto, unfolding(crate::specs::Expressible::immediate_suits_how))]
 fn immediate_suits_how(size: Bits, method: Method, n: u8, operand: Operand) -> bool
@@ -292,7 +293,7 @@ fn immediate_suits_how(size: Bits, method: Method, n: u8, operand: Operand) -> b
     }
 }
 
-/// Whether operand n, where it is an immediate, is a value of its written size.
+/// Returns whether operand `n`, if it is an immediate, is a value of its encoded size.
 #[tactic(auto, unfolding(crate::specs::Expressible::immediate_suits))]
 fn immediate_suits(bits: Bits, row: &Row, instr: &Instr, size: Bits, n: usize) -> bool
     requires place { n < 4 }
@@ -310,7 +311,7 @@ fn immediate_suits(bits: Bits, row: &Row, instr: &Instr, size: Bits, n: usize) -
 
 // ---- 7. each near, RIP or EIP target is reached from the next address
 
-/// A near target is an address of the operand size, and n bytes of offset come to it.
+/// Returns whether a near target is an address of the operand size, and an offset of `n` bytes reaches it.
 #[inline(never)]
 #[tactic(auto, unfolding(crate::specs::Expressible::near_reaches))]
 fn near_reaches(size: Bits, next: u64, n: u8, target: u64) -> bool
@@ -320,7 +321,7 @@ fn near_reaches(size: Bits, next: u64, n: u8, target: u64) -> bool
     is_of_width(size, target) && is_extended_of(n, size, distance(size, next, target))
 }
 
-/// Four bytes of displacement come to an address at RIP or EIP (2.2.1.6).
+/// Returns whether four bytes of displacement reach an address at RIP or EIP (Intel SDM volume 2, 2.2.1.6).
 #[tactic(auto, unfolding(crate::specs::Expressible::address_reaches))]
 fn address_reaches(next: u64, memory: Mem) -> bool
     ensures { result ≡ spec.address_reaches next memory }
@@ -333,7 +334,7 @@ fn address_reaches(next: u64, memory: Mem) -> bool
     }
 }
 
-/// Whether operand n, where it has a target, reaches it.
+/// Returns whether operand `n`, if it has a target, reaches it.
 #[tactic(auto, unfolding(crate::specs::Expressible::target_suits))]
 fn target_suits(bits: Bits, row: &Row, instr: &Instr, parts: &PlainParts, n: usize) -> bool
     requires place { n < 4 }
@@ -352,7 +353,7 @@ fn target_suits(bits: Bits, row: &Row, instr: &Instr, parts: &PlainParts, n: usi
 
 // ---- 8. LOCK and the repeat prefix are allowed
 
-/// LOCK stands on lockable rows with a memory operand first.
+/// Returns whether LOCK occurs only on a lockable row whose first operand is memory.
 #[tactic(auto, unfolding(crate::specs::Expressible::lock_suits))]
 fn lock_suits(row: &Row, instr: &Instr) -> bool
     ensures { result ≡ spec.lock_suits row.now instr.now }
@@ -413,7 +414,7 @@ fn first_failing(first: bool, second: bool, third: bool, fourth: bool) -> Option
     }
 }
 
-/// A cause, where a condition does not hold.
+/// Returns a cause if a condition does not hold.
 fn caused_unless(holds: bool, why: NoSpelling) -> Option<NoSpelling>
     ensures { result ≡ spec.caused_unless holds why }
 {
@@ -437,7 +438,7 @@ fn kind_failure(row: &Row, instr: &Instr) -> Option<NoSpelling>
     }
 }
 
-/// The cause where condition 3 fails: the first operand whose register cannot stand there, or operand 0 where two numbers of a gather are equal.
+/// Returns the cause if condition 3 fails: the first operand whose register is not allowed, or operand 0 if two numbers of a gather are equal.
 #[tactic(auto, unfolding(crate::specs::Expressible::first_failing))]
 fn register_failure(
     bits: Bits,
@@ -462,7 +463,7 @@ fn register_failure(
     }
 }
 
-/// The cause where condition 4 fails, for any operand: an address that ModRM and SIB cannot say. It names no operand.
+/// Returns the cause if condition 4 fails for any operand: an address that ModRM and SIB cannot encode. It names no operand.
 fn memory_failure(bits: Bits, row: &Row, instr: &Instr) -> Option<NoSpelling>
     ensures { result ≡ spec.caused_unless (spec.each_operand (spec.address_suits bits row.now instr.now)) cause.Memory }
 {
@@ -473,7 +474,7 @@ fn memory_failure(bits: Bits, row: &Row, instr: &Instr) -> Option<NoSpelling>
     caused_unless(all, NoSpelling::Memory)
 }
 
-/// The cause where condition 5 fails, for any operand: a displacement that its address does not have. It names no operand.
+/// Returns the cause if condition 5 fails for any operand: a displacement that its address does not allow. It names no operand.
 fn displacement_failure(bits: Bits, row: &Row, instr: &Instr) -> Option<NoSpelling>
     ensures { result ≡ spec.caused_unless (spec.each_operand (spec.displacement_offered bits row.now instr.now)) cause.Displacement }
 {
@@ -484,7 +485,7 @@ fn displacement_failure(bits: Bits, row: &Row, instr: &Instr) -> Option<NoSpelli
     caused_unless(all, NoSpelling::Displacement)
 }
 
-/// The cause where condition 6 fails: the first operand whose immediate its size does not hold.
+/// Returns the cause if condition 6 fails: the first operand whose immediate does not fit its size.
 #[tactic(auto, unfolding(crate::specs::Expressible::first_failing))]
 fn immediate_failure(bits: Bits, row: &Row, instr: &Instr, size: Bits) -> Option<NoSpelling>
     requires { size ≡ tail.plain_size bits row.now }
@@ -502,7 +503,7 @@ fn immediate_failure(bits: Bits, row: &Row, instr: &Instr, size: Bits) -> Option
     }
 }
 
-/// The cause where condition 7 fails, for any operand: a near, RIP or EIP target out of reach. It names no operand.
+/// Returns the cause if condition 7 fails for any operand: a near, RIP or EIP target out of reach. It names no operand.
 fn target_failure(bits: Bits, row: &Row, instr: &Instr, parts: &PlainParts) -> Option<NoSpelling>
     requires { ArePartsOf bits row.now instr.now parts.now }
     ensures { result ≡ spec.caused_unless (spec.each_operand (spec.target_suits bits parts.now.ip row.now instr.now)) cause.Target }
@@ -533,7 +534,7 @@ fn address_size_failure(bits: Bits, row: &Row, instr: &Instr) -> Option<NoSpelli
     )
 }
 
-/// The first that fails of the conditions 2 to 9, tested one after the other on all operands, None where all hold.
+/// Returns the first of conditions 2 to 9 that fails, tested one after another on all operands, or None if all hold.
 #[cold]
 #[inline(never)]
 #[tactic(auto, unfolding(crate::specs::Expressible::first_failed_condition))]
@@ -571,8 +572,8 @@ fn first_failure(bits: Bits, row: &Row, instr: &Instr, parts: &PlainParts) -> Op
     }
 }
 
-/// The first failing condition, by a copy of the parts, which so need not lie in memory where all conditions hold. It is made field by field, without what lies
-/// between them.
+/// Returns the first failing condition, from a copy of the parts, which therefore need not lie in memory if all conditions hold. The copy is made
+/// field by field, without padding.
 #[inline(always)]
 fn first_failure_by(bits: Bits, row: &Row, instr: &Instr, parts: &PlainParts) -> Option<NoSpelling>
     requires { ArePartsOf bits row.now instr.now parts.now }
@@ -593,7 +594,7 @@ fn first_failure_by(bits: Bits, row: &Row, instr: &Instr, parts: &PlainParts) ->
 
 // ---- whether all of them hold, each operand gone over once
 
-/// Whether an address meets the conditions 4, 5 and 7 by itself, as an operand of a kind before the next address.
+/// Returns whether an address alone meets conditions 4, 5 and 7, as an operand of a kind before the next address.
 #[inline(never)]
 fn memory_suits(
     bits: Bits,
@@ -614,9 +615,9 @@ fn memory_suits(
         && address_reaches(next, memory)
 }
 
-/// Whether an operand that is there meets the conditions 2 to 7 by itself.
+/// Returns whether a present operand alone meets conditions 2 to 7.
 ///
-/// It is built into its callers, so that an operand costs no more than one call, of the tests of its variant.
+/// It is inlined, so that an operand costs at most one call, for the tests of its variant.
 #[inline(always)]
 #[tactic(auto, unfolding(crate::specs::Expressible::kind_suits, crate::specs::Expressible::is_operand_nameable, crate::specs::Expressible::address_suits, crate::specs::Expressible::displacement_offered, crate::specs::Expressible::immediate_suits, crate::specs::Expressible::target_suits, crate::specs::Expressible::operand_suits))]
 fn present_suits(bits: Bits, row: &Row, instr: &Instr, parts: &PlainParts, n: usize) -> bool
@@ -649,7 +650,7 @@ fn present_suits(bits: Bits, row: &Row, instr: &Instr, parts: &PlainParts, n: us
     }
 }
 
-/// Whether a kind asks that no operand is there.
+/// Returns whether a kind requires an absent operand.
 #[inline]
 #[tactic(auto, unfolding(instruction_parts::specs::Kinds::method_of, crate::specs::Forms::is_variant_of))]
 fn is_absent_kind(kind: OpKind) -> bool
@@ -661,7 +662,7 @@ fn is_absent_kind(kind: OpKind) -> bool
     }
 }
 
-/// Whether an operand meets the conditions 2 to 7 by itself: one that is absent has no more to meet than its kind.
+/// Returns whether an operand alone meets conditions 2 to 7. An absent one must only match its kind.
 #[inline(always)]
 #[tactic(auto, unfolding(crate::specs::Expressible::kind_suits, crate::specs::Expressible::is_operand_nameable, crate::specs::Expressible::address_suits, crate::specs::Expressible::displacement_offered, crate::specs::Expressible::immediate_suits, crate::specs::Expressible::target_suits, crate::specs::Expressible::operand_suits))]
 fn operand_suits(bits: Bits, row: &Row, instr: &Instr, parts: &PlainParts, n: usize) -> bool
@@ -687,7 +688,7 @@ pub fn is_pair(row: &Row, instr: &Instr) -> bool
         && operand_at(instr, 3).is_absent()
 }
 
-/// Whether the operands 2 and 3 meet the conditions 2 to 7 by themselves, by whether they are absent as their kinds ask.
+/// Returns whether operands 2 and 3 alone meet conditions 2 to 7, given whether they are absent as their kinds require.
 #[inline(always)]
 fn last_suit(bits: Bits, row: &Row, instr: &Instr, parts: &PlainParts, pair: bool) -> bool
     requires parts { ArePartsOf bits row.now instr.now parts.now }

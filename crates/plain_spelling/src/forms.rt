@@ -1,4 +1,4 @@
-//! Which variant of an operand a row asks for.
+//! Which variant of an operand a row requires.
 
 ghost use Rattle.std.specs.Prelude.{◌≡◌, ◌<◌};
 ghost use Rattle.plain_spelling.specs.Forms as spec;

@@ -104,7 +104,7 @@ fn asked_repeat(row: &Row, instr: &Instr, is_vex: bool) -> Rep
     }
 }
 
-/// The REX of a legacy row, where something needs one: `w` is what the row requires of W, and the numbers say what they require of R, X and B.
+/// Returns the REX of a legacy row, if one is needed: `w` is what the row requires of W, and the numbers what they require of R, X and B.
 #[inline(always)]
 #[tactic(auto, unfolding(crate::specs::PlainFront::asked_rex, crate::specs::PlainFront::asks_r, crate::specs::PlainFront::asks_x, crate::specs::PlainFront::asks_b))]
 fn asked_rex(row: &Row, instr: &Instr, asked: &Asked, w: bool, is_vex: bool) -> Option<u8>
@@ -231,7 +231,8 @@ pub fn front_asked(
     front_with(bits, row, instr, asked, w, size66, is_vex_row(row), vex)
 }
 
-/// The front of the plain spelling by what is asked and by its VEX. A caller that knows the row as a legacy one gives None, which is nothing to copy.
+/// Returns the front of the plain spelling, given what is required and its VEX. A caller that knows the row as a legacy one passes None, which needs
+/// no copy.
 #[inline(always)]
 #[tactic(auto, unfolding(crate::specs::PlainFront::byte_front, crate::specs::PlainFront::plain_front_of, crate::specs::PlainFront::asked_used))]
 pub(crate) fn front_with(

@@ -58,14 +58,14 @@ fn vector_in_vvvv(method: Method, operand: Operand) -> bool
     }
 }
 
-/// A number, where its register is a vector register.
+/// Returns a number if its register is a vector register.
 fn number_if(is_vector: bool, number: u16) -> Option<u16>
     ensures { result ≡ (if is_vector then Some number else None) }
 {
     if is_vector { Some(number) } else { None }
 }
 
-/// The number of a gather's destination, where that is a vector register.
+/// Returns the number of a gather's destination, if that is a vector register.
 fn destination_number(row: &Row, instr: &Instr) -> Option<u16>
     ensures { result ≡ spec.asked_vector spec.vector_in_reg front.number_in_reg row.now instr.now }
 {
@@ -76,7 +76,7 @@ fn destination_number(row: &Row, instr: &Instr) -> Option<u16>
     number_if(is_vector, numbers_asked(row, instr).reg)
 }
 
-/// The number of a gather's index, where that is a vector register.
+/// Returns the number of a gather's index, if that is a vector register.
 fn index_number(row: &Row, instr: &Instr) -> Option<u16>
     ensures { result ≡ spec.asked_vector spec.vector_in_index front.number_in_index row.now instr.now }
 {
@@ -87,7 +87,7 @@ fn index_number(row: &Row, instr: &Instr) -> Option<u16>
     number_if(is_vector, numbers_asked(row, instr).index)
 }
 
-/// The number of a gather's mask, where that is a vector register.
+/// Returns the number of a gather's mask, if that is a vector register.
 fn mask_number(row: &Row, instr: &Instr) -> Option<u16>
     ensures { result ≡ spec.asked_vector spec.vector_in_vvvv front.number_in_vvvv row.now instr.now }
 {

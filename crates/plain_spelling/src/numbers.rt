@@ -73,7 +73,7 @@ fn last_of_width(size: Bits) -> u64
     }
 }
 
-/// Half of 2 to the number of bits in n bytes, of which there are some.
+/// Returns half of 2 to the number of bits in `n` bytes; `n` is above 0.
 fn half_of_bytes(n: u8) -> u64
     requires some { 0 < n }
     requires few { n ≤ 8 }

@@ -35,7 +35,7 @@ pub struct PlainParts {
     pub immediates: u8,
     /// How many bytes it has, 1 to 63.
     pub len: u8,
-    /// The address behind it.
+    /// The address after it.
     pub next: u64,
 }
 
@@ -52,8 +52,8 @@ pub fn immediate_len(size: Bits, kind: OpKind) -> u8
     }
 }
 
-/// The bytes that an operand has behind the instruction at operand size 16. Each size has a function of its own, for which a kind is one
-/// look-up in a table: one function over the size would test it again for each operand.
+/// Returns the number of immediate bytes of an operand at operand size 16. Each size has its own function, in which a kind is one look-up in a table.
+/// One function over the size would test the size again for each operand.
 #[inline(always)]
 #[tactic(auto, unfolding(row_fit::specs::Fits::immediate_bytes, instruction_parts::specs::Kinds::immediate_width))]
 fn immediate_len_16(kind: OpKind) -> u8
@@ -160,8 +160,8 @@ fn plain_len(
     used + (1 + (modrm + (sib + (displacement + immediates))))
 }
 
-/// The parts of the plain spelling of an instruction of a row at an address, by the numbers that it asks, by whether the row is a VEX row, and by
-/// the VEX of its front.
+/// Returns the parts of the plain spelling of an instruction of a row at an address, given the numbers that it requires, whether the row is a VEX
+/// row, and the VEX of its front.
 #[inline(always)]
 #[tactic(auto, unfolding(crate::specs::PlainTail::plain_next, crate::specs::PlainFront::byte_front, crate::specs::PlainFront::plain_front_of))]
 fn parts_with(
@@ -204,7 +204,7 @@ fn parts_with(
     }
 }
 
-/// The parts of the plain spelling of an instruction of a VEX row: kept out of [`plain_parts`], of which few rows are.
+/// Returns the parts of the plain spelling of an instruction of a VEX row. They are few, so [`plain_parts`] does not inline this.
 #[inline(never)]
 fn vex_parts(bits: Bits, ip: u64, row: &Row, instr: &Instr) -> PlainParts
     requires { IsTrue (sound row.now) }

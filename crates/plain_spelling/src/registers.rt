@@ -1,4 +1,4 @@
-//! Registers by their numbers, and what an instruction asks of each field.
+//! Registers by their numbers, and what an instruction requires of each field.
 
 ghost use Rattle.std.specs.Prelude.{◌≡◌, ◌<◌};
 ghost use Rattle.x86_values.specs.declared.Operand.TheVariants.{Reg, Mem as Memory};
@@ -36,7 +36,7 @@ pub fn register_number(register: Register) -> u16
     }
 }
 
-/// The number of a register, 0 where there is none.
+/// Returns the number of a register, or 0 if there is none.
 #[inline]
 fn number_or_zero(register: Option<Register>) -> u16
     ensures value { result ≡ spec.number_or_zero register }
@@ -133,7 +133,7 @@ fn with_memory(method: Method, memory: Mem, rest: Asked) -> Asked
     }
 }
 
-/// The numbers, with those that one more operand asks, which is read where it lies.
+/// Returns the numbers, with those that one more operand requires, which is read in place.
 #[inline(always)]
 #[tactic(auto, unfolding(crate::specs::PlainFront::number_in_reg, crate::specs::PlainFront::number_in_rm, crate::specs::PlainFront::number_in_index, crate::specs::PlainFront::number_in_vvvv, crate::specs::PlainFront::number_in_opcode, crate::specs::PlainTail::displacement_read))]
 fn with_operand(kind: OpKind, operand: &Operand, rest: Asked) -> Asked

@@ -106,7 +106,7 @@ pub fn address_operand(row: &Row, instr: &Instr) -> Operand
     }
 }
 
-/// The field mod where no operand is read from r/m: 3 on rows that are limited to a register (2.1.5).
+/// Returns the field mod if no operand is read from r/m: 3 on rows that are limited to a register (Intel SDM volume 2, 2.1.5).
 fn lone_mode(place: Place) -> u8
     ensures { result ≡ spec.lone_mode place }
 {
@@ -137,7 +137,7 @@ fn rm_fields(bits: Bits, asize: Option<Bits>, place: Place, operand: Operand) ->
     }
 }
 
-/// The fields of ModRM, SIB and displacement that operand n asks for as r/m, which is read where it lies.
+/// Returns the fields of ModRM, SIB and displacement that operand `n` requires as r/m. The operand is read in place.
 #[inline(never)]
 fn rm_fields_at(bits: Bits, row: &Row, instr: &Instr, n: usize) -> AddressFields
     requires { n < 4 }
@@ -146,7 +146,7 @@ fn rm_fields_at(bits: Bits, row: &Row, instr: &Instr, n: usize) -> AddressFields
     rm_fields(bits, instr.asize, row.place, operand_at(instr, n))
 }
 
-/// The fields of ModRM, SIB and displacement that the operand of ModRM.rm asks for.
+/// Returns the fields of ModRM, SIB and displacement that the operand of ModRM.rm requires.
 #[inline(always)]
 fn fields_of(bits: Bits, row: &Row, instr: &Instr) -> AddressFields
     ensures { result ≡ spec.fields_of bits row.now instr.now }
@@ -335,7 +335,7 @@ fn append_last_byte<const N: usize>(bytes: &mut ArrayVec<u8, N>, operand: Operan
     }
 }
 
-/// Appends the bytes of an operand that is read so and has n bytes behind the instruction.
+/// Appends the immediate bytes of an operand with this method and `n` such bytes.
 #[inline(always)]
 #[tactic(auto, unfolding(crate::specs::PlainTail::operand_immediate))]
 fn append_immediate<const N: usize>(
@@ -362,7 +362,7 @@ fn append_immediate<const N: usize>(
     }
 }
 
-/// Appends the bytes of operand n: mostly there is none, which is seen before the operand is asked.
+/// Appends the immediate bytes of operand `n`. Usually there are none, which is tested first.
 #[inline(always)]
 #[tactic(auto, unfolding(crate::specs::PlainTail::immediate_at))]
 fn append_immediate_at<const N: usize>(

@@ -28,8 +28,8 @@ pub enum PrefixError {
     /// The bytes, 14 at most, end before their opcode byte, and nothing that is forbidden was met.
     #[error("the bytes end before an opcode byte")]
     Ended,
-    /// No opcode byte can follow: the map number of a VEX is none, a VEX follows 66, F2, F3, F0 or a REX that
-    /// counts, 62 stands as an opcode byte in 64-bit mode, 0F follows the escape byte 0F, or 15 bytes hold no opcode byte.
+    /// No opcode byte can follow: the map number of a VEX is invalid, a VEX follows 66, F2, F3, F0 or an effective REX, 62 is the opcode byte in
+    /// 64-bit mode, 0F follows the escape byte 0F, or 15 bytes hold no opcode byte.
     #[error("no opcode byte can follow these prefixes")]
     Forbidden,
 }
@@ -326,7 +326,7 @@ fn long_front(bits: Bits, bytes: &[u8], n: usize, out: &mut PrefixState) -> Resu
     lead_front(bits, prefixes, rest, out)
 }
 
-/// A front is forbidden once 15 bytes were read without an opcode byte; `used` precede it, where there is one.
+/// Forbids a front if 15 bytes were read without an opcode byte; `used` bytes precede it, if there is one.
 #[inline(always)]
 fn within_15_bytes(
     given: usize,
@@ -381,7 +381,7 @@ pub fn read_front(bits: Bits, bytes: &[u8]) -> Result<PrefixState, PrefixError>
     }
 }
 
-/// Whether a byte is a prefix. Most opcode bytes stand in a range that holds none.
+/// Returns whether a byte is a prefix. Most opcode bytes are in a range without prefixes.
 #[inline(always)]
 fn is_prefix_byte(bits: Bits, b: u8) -> bool
     ensures { result ≡ counting.is_prefix bits b }
@@ -409,7 +409,7 @@ fn front_behind(
     within_15_bytes(bytes.len(), out.used, answer)
 }
 
-/// The front of bytes behind any prefixes.
+/// Returns the front of bytes after any prefixes.
 #[inline(never)]
 fn front_of_run(bits: Bits, bytes: &[u8], out: &mut PrefixState) -> Result<(), PrefixError>
     ensures { answer_in result out.new ≡ answer_of (front.front_of bits bytes.now) }

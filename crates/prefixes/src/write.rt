@@ -12,7 +12,7 @@ use instruction_parts::row_types::Row;
 use row_relation::append_lead;
 use x86_values::{Bits, Rep, Segment};
 
-/// Appends a byte where it is needed.
+/// Appends a byte if it is needed.
 fn append_if(out: &mut ArrayVec<u8, 15>, needed: bool, byte: u8)
     requires { array_vec_len out.old < 15 }
     ensures items { out.new.items ≡ out.old.items ++ spec.byte_if needed byte }

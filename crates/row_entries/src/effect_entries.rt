@@ -1,7 +1,6 @@
-//! Compares what `instruction_info` says of each row with the lines that it is made from: the files in data/, as docs/instruction-info.md says how they
-//! are read.
+//! Compares the effects of each row with the lines from which they are made: the files in data/, explained in docs/instruction-info.md.
 //!
-//! It prints of how many rows each file speaks, and ends with an error at the first row of which the lines say something else.
+//! It prints how many rows each file covers, and ends with an error at the first row whose lines differ.
 
 mod lines;
 mod words;
@@ -16,7 +15,7 @@ use std::fs;
 use words::{Told, features_in, is_told};
 use x86_values::{Code, DispSize, Instr, Mem, Operand, Register, Rep};
 
-/// The files of effects, of which one at most speaks of a row.
+/// The files of effects. At most one of them covers a row.
 const FILES: [&str; 3] = [
     "effects_integer.txt",
     "effects_x87.txt",
@@ -73,7 +72,7 @@ fn sample(code: Code, with_memory: bool) -> Instr
     }
 }
 
-/// Whether a form of a row uses these features, and needs them, or none where it is a NOP without them.
+/// Returns whether a form of a row uses these features, and needs them, or none if it is a NOP without them.
 fn has_features(code: Code, with_memory: bool, features: u64, is_nop: bool) -> bool
     requires { code.0 < ROWS }
 {
@@ -115,7 +114,7 @@ fn compare_row(counts: &mut Vec<u8>, code: Code, words: &str, is_effect: bool) -
     Ok(())
 }
 
-/// Compares a line with the rows of a name that it speaks of, and counts them; a name without a row is an error.
+/// Compares a line with the rows of a name that it covers, and counts them. A name without a row is an error.
 fn compare_name(counts: &mut Vec<u8>, line: &Line, word: &str, is_effect: bool) -> Result<usize> {
     let mut rows: usize = 0;
     for code in 0..ROWS {
@@ -130,7 +129,7 @@ fn compare_name(counts: &mut Vec<u8>, line: &Line, word: &str, is_effect: bool) 
     Ok(rows)
 }
 
-/// Compares a line with the rows that it speaks of, and counts them.
+/// Compares a line with the rows that it covers, and counts them.
 fn compare_line(counts: &mut Vec<u8>, line: &Line, is_effect: bool) -> Result<usize> {
     let mut rows: usize = 0;
     for word in line.names.split('|') {
@@ -139,7 +138,7 @@ fn compare_line(counts: &mut Vec<u8>, line: &Line, is_effect: bool) -> Result<us
     Ok(rows)
 }
 
-/// Compares the lines of a text, and counts the rows that they speak of.
+/// Compares the lines of a text, and counts the rows that they cover.
 fn compare_text(counts: &mut Vec<u8>, text: &str, is_effect: bool) -> Result<usize> {
     let mut rows: usize = 0;
     for line in text.lines() {
@@ -159,7 +158,7 @@ fn no_counts(rt: &HostRuntime) -> Result<Vec<u8>> {
     Ok(counts)
 }
 
-/// Compares the rows of which no line speaks, and counts them; a row of which two lines speak is an error.
+/// Compares the rows that no line covers, and counts them. A row that two lines cover is an error.
 fn compare_rest(counts: &Vec<u8>) -> Result<usize> {
     let mut rest: usize = 0;
     for code in 0..ROWS {
@@ -175,7 +174,7 @@ fn compare_rest(counts: &Vec<u8>) -> Result<usize> {
     Ok(rest)
 }
 
-/// Compares the lines of a file, and counts the rows that they speak of.
+/// Compares the lines of a file, and counts the rows that they cover.
 fn compare_file(
     rt: &HostRuntime,
     counts: &mut Vec<u8>,
@@ -186,7 +185,7 @@ fn compare_file(
     compare_text(counts, text.as_str(), is_effect)
 }
 
-/// Compares the lines of what instructions do with the tables, and prints how many rows each file speaks of.
+/// Compares the lines of effects with the tables, and prints how many rows each file covers.
 fn compare_effects(rt: &HostRuntime) -> Result<()> {
     let mut counts = no_counts(rt)?;
     for file in FILES {
@@ -198,7 +197,7 @@ fn compare_effects(rt: &HostRuntime) -> Result<()> {
     Ok(())
 }
 
-/// Compares the lines of features with the tables: one line alone speaks of each row.
+/// Compares the lines of features with the tables: exactly one line covers each row.
 fn compare_all_features(rt: &HostRuntime) -> Result<()> {
     let mut counts = no_counts(rt)?;
     let rows = compare_file(rt, &mut counts, "features.txt", false)?;

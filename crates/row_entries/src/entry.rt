@@ -178,7 +178,7 @@ fn first_word(text: &[u8]) -> Option<Head>
     }
 }
 
-/// The kind of the first of some operands, `Absent` where there is none.
+/// Returns the kind of the first of some operands, or `Absent` if there is none.
 fn first_kind(text: &[u8]) -> Option<OpKind>
     ensures { result ≡ spec.first_kind text.now }
 {
@@ -208,7 +208,7 @@ fn kinds(text: &[u8]) -> Option<[OpKind; 4]>
     }
 }
 
-/// The class of an entry, where its second word names one.
+/// Returns the class of an entry, if its second word names one.
 #[tactic(auto, unfolding(crate::specs::Entries::named_class))]
 fn named_class(line: &[u8]) -> Option<Class>
     ensures { result ≡ spec.named_class line.now }
@@ -236,7 +236,7 @@ pub fn names_of(line: &[u8]) -> &[u8]
     front(from_names(line), b' ')
 }
 
-/// The kinds of the operands, where a word names them.
+/// Returns the kinds of the operands, if a word names them.
 #[tactic(auto, unfolding(crate::specs::Entries::named_kinds))]
 fn named_kinds(line: &[u8]) -> Option<[OpKind; 4]>
     ensures { result ≡ spec.named_kinds line.now }
@@ -256,7 +256,7 @@ fn from_marks(line: &[u8]) -> &[u8]
     }
 }
 
-/// The entry with a mark of VEX entries alone.
+/// Returns the entry with a mark that only VEX entries have.
 fn with_vex_mark(e: Entry, w: VexW, l: VexL) -> Option<Entry>
     ensures { result ≡ spec.with_vex_mark e w l }
 {
@@ -266,7 +266,7 @@ fn with_vex_mark(e: Entry, w: VexW, l: VexL) -> Option<Entry>
     }
 }
 
-/// The entry with W 0 or W 1: on a legacy entry its operand size, behind a VEX its W.
+/// Returns the entry with W 0 or W 1: on a legacy entry its operand size, on a VEX entry its W.
 fn with_w(e: Entry, size: Sizes, w: VexW) -> Entry
     ensures { result ≡ spec.with_w e size w }
 {
@@ -373,7 +373,7 @@ fn plain_entry(kind: RowKind, map: Map, line: &[u8]) -> Option<Entry>
     })
 }
 
-/// The class: of a legacy entry any where it names none, behind a VEX no prefix.
+/// Returns the class: any if a legacy entry names none, no prefix if a VEX entry names none.
 #[tactic(auto, unfolding(crate::specs::Entries::class_of))]
 fn class_of(kind: RowKind, line: &[u8]) -> Class
     ensures { result ≡ spec.class_of kind line.now }

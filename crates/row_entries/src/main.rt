@@ -26,7 +26,7 @@ use std::str::from_utf8;
 use table::compare;
 use x86_values::Code;
 
-/// The files of entries, in the order in which rows of one place follow one another.
+/// The files of entries, in the order in which rows of one cell follow one another.
 const FILES: [(&str, RowKind); 4] = [
     ("integer.txt", RowKind::Legacy),
     ("x87.txt", RowKind::Legacy),
@@ -53,7 +53,7 @@ fn rows_of<'a>(
     }
 }
 
-/// How many entries some rows come from.
+/// Returns how many entries some rows come from.
 fn entries_of(rows: &[NamedRow]) -> usize {
     let mut count: usize = 0;
     let mut last = 0;
@@ -110,7 +110,7 @@ fn with_file<'a>(
     Ok(merge(rt.alloc(), all, &rows)?)
 }
 
-/// The rows of all files, whose texts are given, in the order of the table, and how many entries they come from.
+/// Returns the rows of all files, given their texts, in the order of the table, and how many entries they come from.
 fn all_rows<'a>(rt: &HostRuntime, texts: &'a [String]) -> Result<(Vec<NamedRow<'a>>, usize)> {
     let mut all = Vec::new(rt.alloc());
     let mut entries: usize = 0;

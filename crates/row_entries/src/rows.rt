@@ -229,7 +229,7 @@ fn section_of(at: Section, line: &[u8]) -> Option<Section>
     }
 }
 
-/// The entry of a line, where a map was named.
+/// Returns the entry of a line, if a map was named.
 fn entry_at(kind: RowKind, map: Option<Map>, line: &[u8]) -> Option<Line>
     ensures { result ≡ spec.entry_in_map kind map line.now }
 {
@@ -238,7 +238,7 @@ fn entry_at(kind: RowKind, map: Option<Map>, line: &[u8]) -> Option<Line>
     Some(Line::Entry(e))
 }
 
-/// What a line is; None where it is nothing that a line can be.
+/// Returns the meaning of a line, or None if it has none.
 #[tactic(auto, unfolding(crate::specs::Rows::entry_line))]
 fn line_of(kind: RowKind, at: Section, line: &[u8]) -> Option<Line>
     ensures { result ≡ spec.entry_line kind at line.now }

@@ -28,7 +28,7 @@ fn is_row_at(row: &NamedRow, code: u16) -> bool
     same_row(&row.row, &row_of(Code(code))) && is_name(row.name, code)
 }
 
-/// The first code from `at` on whose row is not the next of some rows; None where these are the rest of the table.
+/// Returns the first code from `at` on whose row is not the next of some rows; None if these are the rest of the table.
 fn first_difference(rows: &[NamedRow], at: u16) -> Option<u16>
     requires { at ≤ ROWS }
     ensures { IsNone result ↔ AreRowsFrom (map view rows.now) at }

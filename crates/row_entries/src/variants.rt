@@ -12,7 +12,7 @@ use instruction_parts::row_types::{LBit, OpKind, RowKind, Size, WBit};
 pub enum Trait {
     /// Its size is the operand size.
     BySize,
-    /// Its size goes by W.
+    /// Its size depends on W.
     ByW,
     ReadsModRm,
     RegisterOnly,
@@ -49,7 +49,7 @@ fn is_by_size(kind: OpKind) -> bool
     }
 }
 
-/// Whether a kind's size goes by W.
+/// Returns whether a kind's size depends on W.
 #[tactic(auto, unfolding(crate::specs::Variants::is_by_w))]
 fn is_by_w(kind: OpKind) -> bool
     ensures { result ≡ spec.is_by_w kind }
@@ -116,7 +116,7 @@ fn all_modes(modes: Modes) -> u8
     }
 }
 
-/// 64-bit mode, where it is one of the modes.
+/// Returns 64-bit mode, if it is one of the modes.
 fn only_64(modes: Modes) -> u8
     ensures { result ≡ spec.only_64 modes }
 {
@@ -126,7 +126,7 @@ fn only_64(modes: Modes) -> u8
     }
 }
 
-/// The other two, where they are.
+/// Returns the other two modes, if they are among the modes.
 fn outside_64(modes: Modes) -> u8
     ensures { result ≡ spec.outside_64 modes }
 {
@@ -144,7 +144,7 @@ fn goes_by_size(e: &Entry) -> bool
     any_has(&e.ops, Trait::BySize) || e.more_names == 2
 }
 
-/// Whether the rows go by W.
+/// Returns whether the rows depend on W.
 #[tactic(auto, unfolding(crate::specs::Variants::goes_by_w))]
 fn goes_by_w(e: &Entry) -> bool
     ensures { result ≡ spec.goes_by_w e.now }
@@ -191,7 +191,7 @@ fn by_sizes(small: u8, middle: u8, large: u8) -> [Variant; 3]
     ]
 }
 
-/// Where neither W nor a default size of 64 bits decides: by the mark of sizes, or as the operands and names say.
+/// Returns the rows if neither W nor a default size of 64 bits decides: by the mark of sizes, or by the operands and names.
 fn by_mark(modes: Modes, sizes: Sizes, implied: bool) -> Option<[Variant; 3]>
     ensures { result ≡ spec.by_mark modes sizes implied }
 {
@@ -228,7 +228,7 @@ fn is_implied(e: &Entry) -> bool
     goes_by_size(e) || e.more_names == 1 && only_64(e.modes) == 0
 }
 
-/// Where no W decides: `^`, `!`, or the mark of sizes.
+/// Returns the rows if W does not decide: by `^`, `!`, or the mark of sizes.
 fn by_operand_size(e: &Entry) -> Option<[Variant; 3]>
     ensures { result ≡ spec.by_operand_size e.now }
 {
@@ -244,7 +244,7 @@ fn by_operand_size(e: &Entry) -> Option<[Variant; 3]>
     }
 }
 
-/// The rows of an entry that depends on the operand size, or by a W that is its operand size; None where it has one size.
+/// Returns the rows of an entry that depends on the operand size, or on a W that is its operand size; None if it has one size.
 #[tactic(auto, unfolding(crate::specs::Variants::sizes_of))]
 fn sizes_of(e: &Entry) -> Option<[Variant; 3]>
     ensures { result ≡ spec.sizes_of e.now }
@@ -283,7 +283,7 @@ fn w_of_size(size: Size) -> WBit
     }
 }
 
-/// A row by W, behind a VEX.
+/// Returns a VEX row that depends on W.
 fn with_own_w(v: Variant) -> Variant
     ensures { result ≡ spec.with_own_w v }
 {
@@ -293,7 +293,7 @@ fn with_own_w(v: Variant) -> Variant
     }
 }
 
-/// Rows by W, behind a VEX.
+/// Returns VEX rows that depend on W.
 fn with_own_ws(rows: [Variant; 3]) -> [Variant; 3]
     ensures { result ≡ map spec.with_own_w rows }
 {
@@ -301,7 +301,7 @@ fn with_own_ws(rows: [Variant; 3]) -> [Variant; 3]
     [with_own_w(a), with_own_w(b), with_own_w(c)]
 }
 
-/// A VEX row that goes by no size.
+/// Returns a VEX row that depends on no size.
 fn by_notation(w: WBit, modes: u8) -> Variant
     ensures { result ≡ spec.by_notation w modes }
 {
@@ -312,7 +312,7 @@ fn by_notation(w: WBit, modes: u8) -> Variant
     }
 }
 
-/// The rows of a VEX entry that goes by no size, for one L.
+/// Returns the rows, for one L, of a VEX entry that depends on no size.
 fn by_vex_w(w: VexW, modes: u8) -> [Variant; 3]
     ensures { result ≡ spec.by_vex_w w modes }
 {

@@ -104,7 +104,7 @@ pub fn mark_named(text: &[u8]) -> Option<Mark>
     value_among(&MARK_WORDS, text)
 }
 
-/// What a text stands for among some words, None where it is none of them.
+/// Returns what a text stands for among some words, or None if it is none of them.
 #[tactic(auto, unfolding(crate::specs::Words::value_among))]
 fn value_among<T: Copy>(words: &[(&str, T)], text: &[u8]) -> Option<T>
     ensures { result ≡ spec.value_among (map (λ w. (w.0.now, w.1)) words.now) text.now }

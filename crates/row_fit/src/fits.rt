@@ -194,7 +194,7 @@ pub fn class_fits(row: &Row, state: &PrefixState) -> bool
     }
 }
 
-/// Whether the row asks for this operand size and W.
+/// Returns whether the row accepts this operand size and W.
 #[tactic(auto, unfolding(crate::specs::Fits::size_fits))]
 fn size_fits(bits: Bits, size: Size, operand_size: Bits, w: bool) -> bool
     ensures { result ≡ spec.size_fits bits size operand_size w }
@@ -306,7 +306,7 @@ fn reg_is_zero(m: Option<ModRm>) -> bool
     }
 }
 
-/// Outside 64-bit mode the top two bits behind C4 or C5 are 11.
+/// Returns whether the top two bits after C4 or C5 are 11, or the mode is 64.
 #[tactic(auto, unfolding(crate::specs::Fits::is_vex_of_mode))]
 fn is_vex_of_mode(bits: Bits, v: Vex) -> bool
     ensures { result ≡ spec.is_vex_of_mode bits v }
@@ -314,7 +314,7 @@ fn is_vex_of_mode(bits: Bits, v: Vex) -> bool
     is_64(bits) || (!v.r && (if v.three { !v.x } else { v.vvvv < 8 }))
 }
 
-/// Whether the byte can stand as opcode byte of a map in a mode.
+/// Returns whether the byte can be an opcode byte of a map in a mode.
 #[tactic(auto, unfolding(crate::specs::Fits::is_opcode))]
 fn is_opcode(bits: Bits, map: Map, b: u8) -> bool
     ensures { result ≡ spec.is_opcode bits map b }
@@ -394,7 +394,7 @@ fn is_fixed_byte(plus: Plus, b: u8, m: ModRm) -> bool
     }
 }
 
-/// ModRM stands exactly on the rows that have one, with the digit or the fixed byte.
+/// Returns whether ModRM occurs exactly on the rows that have one, with the digit or the fixed byte.
 #[tactic(auto, unfolding(crate::specs::Fits::modrm_rule_fits))]
 fn modrm_rule_fits(plus: Plus, rule: ModRmRule, m: Option<ModRm>) -> bool
     ensures { result ≡ spec.modrm_rule_fits plus rule m }
@@ -425,7 +425,7 @@ fn place_allows(place: Place, m: ModRm) -> bool
     }
 }
 
-/// The limit that an operand's kind sets by itself.
+/// Returns the limit that an operand's kind sets.
 #[inline]
 fn place_of_kind(kind: OpKind) -> Place
     ensures { result ≡ spec.place_of (method_of kind) }

@@ -144,7 +144,7 @@ pub fn displacement_bytes(asize: Bits, m: ModRm, sib: Option<Sib>) -> u8
     }
 }
 
-/// SIB and displacement are as long as ModRM asks for.
+/// Returns whether SIB and displacement have the lengths that ModRM requires.
 #[tactic(auto, unfolding(crate::specs::Fits::address_fits))]
 fn address_fits(asize: Bits, row: &Row, m: Option<ModRm>, sib: Option<Sib>, given: usize) -> bool
     ensures { result ≡ spec.address_fits asize row.now m sib given }
@@ -289,7 +289,7 @@ fn destination_fits(row: &Row, m: Option<ModRm>) -> bool
     }
 }
 
-/// Whether there is a ModRM that asks for a SIB.
+/// Returns whether there is a ModRM that requires a SIB.
 fn modrm_needs_sib(asize: Bits, m: Option<ModRm>) -> bool
     ensures { result ≡ spec.has_modrm (λ m. spec.needs_sib asize m) m }
 {

@@ -1,4 +1,4 @@
-//! What the conditions of a row ask of an instruction's bytes, as nine fields.
+//! The conditions of a row on an instruction's bytes, as nine fields.
 
 pub use instruction_parts::row_types::Map;
 pub use x86_values::Rep;
@@ -8,12 +8,12 @@ pub use x86_values::Rep;
 pub struct Fields {
     /// Whether a VEX precedes the opcode byte.
     pub vex: bool,
-    /// The map that the opcode byte stands in.
+    /// The map of the opcode byte.
     pub map: Map,
     pub opcode: u8,
     /// The counting repeat prefix; of a VEX, F3 and F2 of pp.
     pub rep: Rep,
-    /// Whether 66 stands; of a VEX, 66 of pp.
+    /// Whether 66 occurs; in a VEX, 66 of pp.
     pub size66: bool,
     /// The bit W of the counting REX or of the VEX.
     pub w: bool,
@@ -21,6 +21,6 @@ pub struct Fields {
     pub l: bool,
     /// The bit B of the counting REX, false without one.
     pub rex_b: bool,
-    /// The byte behind the opcode byte, where there is one.
+    /// The byte after the opcode byte, if there is one.
     pub modrm: Option<u8>,
 }

@@ -1,4 +1,4 @@
-//! The operands of a row of which at most one has bytes of the immediates, where the operand size is given.
+//! The operands of a row with at most one operand that has bytes of the immediates, given the operand size.
 
 ghost use Rattle.std.specs.Prelude.{◌≡◌, ◌<◌, ◌≤◌, length, IsTrue};
 ghost use Rattle.row_meaning.specs.Meaning as spec;
@@ -27,7 +27,7 @@ pub struct Given<'a> {
     pub behind: &'a Behind<'a>,
 }
 
-/// An operand of any kind, whose own bytes are all those of the immediates, written to `out`. It answers whether the operand is memory.
+/// Writes to `out` an operand of any kind to which all bytes of the immediates belong. Returns whether the operand is memory.
 #[inline(never)]
 fn any_given_into(given: &Given, state: &PrefixState, kind: OpKind, out: &mut Operand) -> bool
     requires behind { IsInRange given.now.behind.now }
@@ -45,8 +45,7 @@ fn any_given_into(given: &Given, state: &PrefixState, kind: OpKind, out: &mut Op
     )
 }
 
-/// Writes the operand of a kind to where it is to stand, and says whether it is memory. Registers and memory by ModRM, which most operands are, are tested
-/// from others first.
+/// Writes the operand of a kind to its place, and returns whether it is memory. Registers and memory by ModRM, the most frequent, are tested first.
 #[inline(never)]
 #[tactic(auto, unfolding(crate::specs::Meaning::operand_by, row_fit::specs::Fits::is_memory_method))]
 fn given_into(given: &Given, state: &PrefixState, kind: OpKind, out: &mut Operand) -> bool
@@ -82,7 +81,7 @@ fn given_into(given: &Given, state: &PrefixState, kind: OpKind, out: &mut Operan
     }
 }
 
-/// Operand n, written to `out`. It answers whether the operand is memory.
+/// Writes operand `n` to `out`. Returns whether the operand is memory.
 #[inline(always)]
 #[tactic(auto, unfolding(instruction_parts::specs::Kinds::method_of, row_fit::specs::Fits::is_memory_method))]
 fn given_operand_into(

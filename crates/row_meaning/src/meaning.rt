@@ -79,7 +79,7 @@ fn word_or_dword(size: Bits) -> Bits
     }
 }
 
-/// 64 where W is 1, else 32.
+/// Returns 64 if W is 1, else 32.
 fn size_by_w(w: bool) -> Bits
     ensures { result ≡ spec.size_by_w w }
 {
@@ -167,7 +167,7 @@ fn base_16(rm: u8) -> Register
     }
 }
 
-/// Its index, where the address is a sum.
+/// Returns its index, if the address is a sum.
 #[tactic(auto, unfolding(crate::specs::Meaning::index_16))]
 fn index_16(rm: u8) -> Option<Register>
     ensures { result ≡ spec.index_16 rm }

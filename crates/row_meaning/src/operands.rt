@@ -244,7 +244,7 @@ fn near_target(size: Bits, next: u64, imm: &[u8]) -> Operand
     Operand::Near(target(size, next, imm))
 }
 
-/// The numbers that the fields ask for, each below 16.
+/// Returns the number that the fields encode, below 16.
 #[tactic(auto, unfolding(row_fit::specs::Fits::modrm_in_range, row_fit::specs::Fits::reg_number))]
 pub(crate) fn reg_number_u8(state: &PrefixState, m: Option<ModRm>) -> u8
     requires { IsTrue (fits.modrm_in_range m) }
@@ -253,7 +253,7 @@ pub(crate) fn reg_number_u8(state: &PrefixState, m: Option<ModRm>) -> u8
     number_u8(reg_number(state, m))
 }
 
-/// The number that r/m asks for, below 16.
+/// Returns the number that r/m encodes, below 16.
 #[tactic(auto, unfolding(row_fit::specs::Fits::modrm_in_range, row_fit::specs::Fits::rm_number))]
 pub(crate) fn rm_number_u8(bits: Bits, state: &PrefixState, m: Option<ModRm>) -> u8
     requires { IsTrue (fits.modrm_in_range m) }
@@ -325,8 +325,7 @@ pub(crate) fn register_into(
     *out = Operand::Reg(register_of_size(bits, size, l, state, file_of_kind(kind), n));
 }
 
-/// An operand by how it is read, written to `out`; `imm` are the bytes of the immediates that are its own. It answers whether the operand is
-/// memory.
+/// Writes to `out` the operand of a method; `imm` are its own bytes of the immediates. Returns whether the operand is memory.
 // Each arm writes `out`: an operand that all arms hand on is put together from its parts again.
 #[inline(always)]
 #[tactic(auto, unfolding(crate::specs::Meaning::operand_by, row_fit::specs::Fits::is_memory_method))]
@@ -505,7 +504,7 @@ fn has_immediate(kind: OpKind) -> bool
     }
 }
 
-/// The bytes of an operand's own immediate, asked for only where its kind has some.
+/// Returns the bytes of an operand's own immediate. It is called only if its kind has some.
 #[inline(always)]
 #[tactic(auto, unfolding(crate::specs::Meaning::own_immediate))]
 fn immediate_of<'a>(size: Bits, row: &Row, n: usize, kind: OpKind, imm: &'a [u8]) -> &'a [u8]
@@ -522,8 +521,7 @@ fn immediate_of<'a>(size: Bits, row: &Row, n: usize, kind: OpKind, imm: &'a [u8]
     }
 }
 
-/// An operand of a kind, where there is one, written to `out`; `own` are its own bytes of the immediates. It answers whether the operand is
-/// memory.
+/// Writes to `out` the operand of a kind, if there is one; `own` are its own bytes of the immediates. Returns whether the operand is memory.
 // Of the row it gets what it needs, so that the row need not stand in memory.
 #[inline(never)]
 fn present_into(
@@ -549,7 +547,7 @@ fn present_into(
     operand_into(bits, size, l, state, behind, kind, method, own, out)
 }
 
-/// Operand n, written to `out`. It answers whether the operand is memory.
+/// Writes operand `n` to `out`. Returns whether the operand is memory.
 #[inline(always)]
 #[tactic(auto, unfolding(crate::specs::Meaning::operand_at, instruction_parts::specs::Kinds::method_of, row_fit::specs::Fits::is_memory_method))]
 fn operand_at_into(
@@ -605,7 +603,7 @@ pub(crate) fn any_of(first: bool, second: bool, third: bool, fourth: bool) -> bo
     first || second || third || fourth
 }
 
-/// The address size of an instruction, where some operand is memory or the row has the mark a.
+/// Returns the address size of an instruction, if some operand is memory or the row has the mark `ADDRESS`.
 #[inline(always)]
 pub(crate) fn kept_address_size(
     bits: Bits,

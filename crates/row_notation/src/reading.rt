@@ -1,5 +1,5 @@
-//! The shape of which a text is the notation. Each part of a text has a function that goes over the words that may stand
-//! there, and answers a shape, or how many bytes are left at the farthest place where no shape's text goes on.
+//! Reads a notation. Each part of a text has a function that tries the possible words, and returns a shape, or how many bytes are left at the
+//! farthest point at which no notation continues.
 
 ghost use Rattle.std.specs.Prelude.{◌≡◌, ◌<◌, ◌≤◌, ◌+◌, length, IfOk, IfErr, Ok, Err};
 ghost use Rattle.instruction_parts.specs.declared.row_types.RowShape.{RowShape};
@@ -15,7 +15,7 @@ use instruction_parts::row_types::{
 };
 use thiserror::Error;
 
-/// The bytes behind a word, or how many are left where the text is not the word's.
+/// Returns the bytes after a word, or how many are left if the text does not begin with the word.
 #[tactic(auto, unfolding(crate::specs::Reading::after_word))]
 fn after_word<'a>(word: &[u8], text: &'a [u8]) -> Result<&'a [u8], usize>
     ensures ok { IfOk result (λ rest. spec.after_word word.now text.now ≡ Ok rest.now) }
@@ -34,7 +34,7 @@ fn after_word<'a>(word: &[u8], text: &'a [u8]) -> Result<&'a [u8], usize>
     }
 }
 
-/// A shape, else the answer that fewer bytes are left.
+/// Returns a shape, or else the result with fewer bytes left.
 fn better(a: Result<RowShape, usize>, b: Result<RowShape, usize>) -> Result<RowShape, usize>
     ensures { result ≡ spec.better a b }
 {
@@ -107,7 +107,7 @@ fn read_imm(s: RowShape, text: &[u8]) -> Result<RowShape, usize>
         .fold(Err(text.len()), |a, b| better(a, b))
 }
 
-/// The value of a hexadecimal digit in upper case, 16 where it is none.
+/// Returns the value of a hexadecimal digit in upper case, or 16 for any other byte.
 fn digit_value(c: u8) -> u8
     ensures value { result ≡ spec.hex_value c }
     ensures small { result ≤ 16 }
@@ -119,7 +119,7 @@ fn digit_value(c: u8) -> u8
     }
 }
 
-/// From a stack number on, behind the fixed ModRM byte `b`.
+/// Reads from a stack number on, after the fixed ModRM byte `b`.
 #[tactic(auto, unfolding(crate::specs::Reading::read_stack))]
 fn read_stack(s: RowShape, b: u8, text: &[u8]) -> Result<RowShape, usize>
     ensures { result ≡ spec.read_stack s b text.now }
@@ -135,7 +135,7 @@ fn read_stack(s: RowShape, b: u8, text: &[u8]) -> Result<RowShape, usize>
     )
 }
 
-/// A stack number, and the rest.
+/// Reads a stack number, and the rest.
 fn read_stack_word(s: RowShape, text: &[u8]) -> Result<RowShape, usize>
     ensures { result ≡ spec.read_stack_word s text.now }
 {
@@ -212,7 +212,7 @@ fn read_digit(s: RowShape, text: &[u8]) -> Result<RowShape, usize>
     }
 }
 
-/// A fixed ModRM byte with the space before it, which stands in legacy rows alone.
+/// Reads a fixed ModRM byte with the space before it, which only legacy rows have.
 fn read_fixed_of(kind: RowKind, s: RowShape, text: &[u8]) -> Result<RowShape, usize>
     ensures { result ≡ spec.read_fixed_of kind s text.now }
 {
@@ -222,7 +222,7 @@ fn read_fixed_of(kind: RowKind, s: RowShape, text: &[u8]) -> Result<RowShape, us
     }
 }
 
-/// A ModRM byte of any content, and the rest.
+/// Reads a ModRM byte of any content, and the rest.
 fn read_any(s: RowShape, text: &[u8]) -> Result<RowShape, usize>
     ensures { result ≡ spec.read_any s text.now }
 {
@@ -236,7 +236,7 @@ fn read_any(s: RowShape, text: &[u8]) -> Result<RowShape, usize>
     )
 }
 
-/// A digit with the space and the slash before it, and the rest.
+/// Reads a digit with the space and the slash before it, and the rest.
 fn read_slash_digit(s: RowShape, text: &[u8]) -> Result<RowShape, usize>
     ensures { result ≡ spec.read_slash_digit s text.now }
 {
@@ -262,7 +262,7 @@ fn read_modrm(s: RowShape, text: &[u8]) -> Result<RowShape, usize>
     )
 }
 
-/// One word of an added register, and the rest.
+/// Reads one word of an added register, and the rest.
 fn read_plus_word(s: RowShape, text: &[u8], plus: PlusWord) -> Result<RowShape, usize>
     ensures { result ≡ spec.read_plus_word s text.now plus }
 {
@@ -370,7 +370,7 @@ fn read_opcode(s: RowShape, text: &[u8]) -> Result<RowShape, usize>
     }
 }
 
-/// The escape bytes of one map, and the rest.
+/// Reads the escape bytes of one map, and the rest.
 fn read_map_word(s: RowShape, text: &[u8], map: Map) -> Result<RowShape, usize>
     ensures { result ≡ spec.read_map_word s text.now map }
 {
@@ -389,7 +389,7 @@ fn read_map(s: RowShape, text: &[u8]) -> Result<RowShape, usize>
         .fold(Err(text.len()), |a, b| better(a, b))
 }
 
-/// One size word, and the rest.
+/// Reads one size word, and the rest.
 fn read_size_word(s: RowShape, text: &[u8], size: SizeWord) -> Result<RowShape, usize>
     ensures { result ≡ spec.read_size_word s text.now size }
 {
@@ -420,7 +420,7 @@ fn read_size(s: RowShape, text: &[u8]) -> Result<RowShape, usize>
     .fold(Err(text.len()), |a, b| better(a, b))
 }
 
-/// One class word, and the rest.
+/// Reads one class word, and the rest.
 fn read_class_word(s: RowShape, text: &[u8], class: Class) -> Result<RowShape, usize>
     ensures { result ≡ spec.read_class_word s text.now class }
 {
@@ -447,7 +447,7 @@ fn read_class(s: RowShape, text: &[u8]) -> Result<RowShape, usize>
     .fold(Err(text.len()), |a, b| better(a, b))
 }
 
-/// One value of W, and the rest.
+/// Reads one value of W, and the rest.
 fn read_w_word(s: RowShape, text: &[u8], w: WBit) -> Result<RowShape, usize>
     ensures { result ≡ spec.read_w_word s text.now w }
 {
@@ -466,7 +466,7 @@ fn read_w(s: RowShape, text: &[u8]) -> Result<RowShape, usize>
         .fold(Err(text.len()), |a, b| better(a, b))
 }
 
-/// One map of a VEX, and the rest.
+/// Reads one map of a VEX, and the rest.
 fn read_vex_map_word(s: RowShape, text: &[u8], map: Map) -> Result<RowShape, usize>
     ensures { result ≡ spec.read_vex_map_word s text.now map }
 {
@@ -485,7 +485,7 @@ fn read_vex_map(s: RowShape, text: &[u8]) -> Result<RowShape, usize>
         .fold(Err(text.len()), |a, b| better(a, b))
 }
 
-/// One value of pp, and the rest.
+/// Reads one value of pp, and the rest.
 fn read_pp_word(s: RowShape, text: &[u8], class: Class) -> Result<RowShape, usize>
     ensures { result ≡ spec.read_pp_word s text.now class }
 {
@@ -504,7 +504,7 @@ fn read_pp(s: RowShape, text: &[u8]) -> Result<RowShape, usize>
         .fold(Err(text.len()), |a, b| better(a, b))
 }
 
-/// One value of L, and the rest.
+/// Reads one value of L, and the rest.
 fn read_l_word(s: RowShape, text: &[u8], l: LBit) -> Result<RowShape, usize>
     ensures { result ≡ spec.read_l_word s text.now l }
 {
@@ -512,7 +512,7 @@ fn read_l_word(s: RowShape, text: &[u8], l: LBit) -> Result<RowShape, usize>
     read_pp(RowShape { l, ..s }, rest)
 }
 
-/// A VEX text behind its first word.
+/// Reads a VEX text after its first word.
 #[tactic(auto, unfolding(crate::specs::Reading::read_l))]
 fn read_l(s: RowShape, text: &[u8]) -> Result<RowShape, usize>
     ensures { result ≡ spec.read_l s text.now }
@@ -523,7 +523,7 @@ fn read_l(s: RowShape, text: &[u8]) -> Result<RowShape, usize>
         .fold(Err(text.len()), |a, b| better(a, b))
 }
 
-/// A shape of which nothing was read.
+/// Returns a shape of which nothing has been read.
 fn blank(kind: RowKind) -> RowShape
     ensures { result ≡ spec.blank kind }
 {

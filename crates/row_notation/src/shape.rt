@@ -8,7 +8,7 @@ use instruction_parts::row_types::{
 };
 use instruction_parts::sizes::{has_bang, has_caret};
 
-/// The kind of operand `n`, `Absent` where the row has none.
+/// Returns the kind of operand `n`, or `Absent` if the row has none.
 fn kind_of(row: &Row, n: usize) -> OpKind
     ensures { result ≡ spec.kind_of row.now n }
 {

@@ -52,7 +52,7 @@ fn bit(b: bool) -> u8
     if b { 1 } else { 0 }
 }
 
-/// A bit as it is stored in a VEX, inverted (2.3.5).
+/// Returns a bit as a VEX encodes it, inverted (Intel SDM volume 2, 2.3.5).
 fn inverted_bit(b: bool) -> u8
     ensures value { result ≡ spec.inverted_bit b }
     ensures small { result < 2 }

@@ -1,6 +1,6 @@
-//! One instruction of each row of the table, in each mode in which the row exists: it is made from the row's operand kinds, encoded, and
-//! read again by the three decoding calls, from its bytes and from its bytes without the last one. For each mode a line says how many rows
-//! there are and on how many all calls agree; each other row has a line of its own. The bytes of standard input follow, with what is read of them.
+//! Makes one instruction of each row of the table, in each mode in which the row exists, from the row's operand kinds. Encodes it, and decodes it
+//! with the three decoding calls, from its bytes and from its bytes without the last one. A line for each mode gives the number of rows, and the
+//! number on which all calls agree; each other row has its own line. Then it decodes the bytes of standard input.
 #![tactic(auto)]
 
 ghost use Rattle.std.specs.Prelude.{◌<◌};
@@ -18,7 +18,7 @@ use reading_examples::tell_lines;
 use sample::sample;
 use x86_values::{Bits, Code, Instr, same};
 
-/// Where the instructions stand.
+/// The address of the instructions.
 const ADDRESS: u64 = 0x1000;
 
 /// How the calls read the bytes of an instruction.
@@ -31,14 +31,14 @@ enum Finding {
     Differs,
 }
 
-/// Whether all calls read the whole bytes as the instruction.
+/// Returns whether all calls decode the whole bytes to the instruction.
 fn all_read(answers: &Answers, instr: &Instr, len: usize) -> bool {
     answers.iter().all(
         |answer| matches!(answer, Ok(d) if same(&d.instr, instr) && d.len as usize == len),
     )
 }
 
-/// Whether all calls answer the same error.
+/// Returns whether all calls return the same error.
 fn all_refuse(answers: &Answers) -> bool {
     let [first, second, third] = answers;
     match (first, second, third) {
@@ -73,7 +73,7 @@ fn width(bits: Bits) -> u32 {
     }
 }
 
-/// Tells of a row whose instruction is not read as it should, and answers whether it is.
+/// Reports a row whose instruction does not decode as it should, and returns whether it does.
 fn tell(rt: &HostRuntime, bits: Bits, code: Code, row: &Row) -> anyhow::Result<bool>
     requires { code.0 < ROWS }
 {

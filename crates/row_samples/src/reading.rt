@@ -12,7 +12,7 @@ use x86_values::{Bits, Decoded};
 /// The answers of `decode`, `Decoder::decode` and `decode_counted`.
 pub type Answers = [Result<Decoded, DecodeError>; 3];
 
-/// The three answers in a mode, on a count of its own.
+/// Returns the three results in a mode, on its own count.
 fn answers_on<L: Ledger>(blank: Blank, bits: Bits, ip: u64, bytes: &[u8]) -> Answers
     requires name { blank.name ≡ L.name }
     requires parts { blank.parts ≡ L.parts }
@@ -26,7 +26,7 @@ fn answers_on<L: Ledger>(blank: Blank, bits: Bits, ip: u64, bytes: &[u8]) -> Ans
     }
 }
 
-/// The three answers.
+/// Returns the three results.
 fn of_mode<const BITS: u32, L: Ledger>(ip: u64, bytes: &[u8], steps: &mut Steps<L>) -> Answers
     requires { IsTrue (is_mode BITS) }
 {

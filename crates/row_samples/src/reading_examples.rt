@@ -1,5 +1,5 @@
-//! What is read of some bytes. A line of the input has a mode and the bytes in hexadecimal, as `64 f00100`, and behind ` -> ` the output has the
-//! length and the Intel text of the instruction that stands at their front at address 0, or why there is none.
+//! Decodes some bytes. A line of the input has a mode and the bytes in hexadecimal, such as `64 f00100`. The output has after ` -> ` the length and
+//! the Intel text of the instruction at their front, at address 0, or why there is none.
 
 ghost use Rattle.std.specs.Prelude.{IfOk, IsTrue};
 ghost use Rattle.opcode_rows.specs.Allowed.{is_well_formed};
@@ -20,7 +20,7 @@ fn read(bits: Bits, bytes: &[u8]) -> Result<Decoded, DecodeError>
     }
 }
 
-/// The mode that a word names, 64 where it names none.
+/// Returns the mode that a word names, or 64 for any other word.
 fn mode_of(word: &str) -> Bits {
     match word {
         "16" => Bits::B16,
@@ -29,7 +29,7 @@ fn mode_of(word: &str) -> Bits {
     }
 }
 
-/// Writes a line and what is read of its bytes.
+/// Writes a line and what its bytes decode to.
 fn tell(rt: &HostRuntime, line: &str, bits: Bits, bytes: &[u8]) -> anyhow::Result<()> {
     match read(bits, bytes) {
         Ok(d) => {

@@ -14,7 +14,7 @@ fn general_register(size: Bits, number: u8) -> Register {
     }
 }
 
-/// The operand size that a row names, 32 where it names none.
+/// Returns the operand size that a row names, or 32 if it names none.
 fn row_size(row: &Row) -> Bits {
     match row.size {
         Size::O16 => Bits::B16,

@@ -34,7 +34,7 @@ fn jump_to(bits: Bits, target: u64) -> Instr
     }
 }
 
-/// The jump to an address, as one that stands there.
+/// Returns the jump to an address, as an instruction that lies there.
 fn jump_at(bits: Bits, back: u64) -> Placed
     ensures { result ≡ spec.jump_at bits back }
 {
@@ -47,7 +47,7 @@ fn jump_at(bits: Bits, back: u64) -> Placed
     }
 }
 
-/// An instruction, and the jump back to the address behind it.
+/// Returns an instruction, and the jump back to the address after it.
 pub(crate) fn step_items(bits: Bits, item: Placed) -> [Placed; 2]
     ensures { result ≡ spec.step_items bits item }
 {

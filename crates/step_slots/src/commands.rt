@@ -32,7 +32,7 @@ pub enum StepReply {
     NotTaken { place: u64 },
 }
 
-/// The reply that says what a step answered.
+/// Returns the reply for the result of a step.
 fn reply_to_step(answer: Result<u64, StepError>) -> StepReply
     ensures { result ≡ step_reply answer }
 {
@@ -42,7 +42,7 @@ fn reply_to_step(answer: Result<u64, StepError>) -> StepReply
     }
 }
 
-/// The reply that says what a finish answered.
+/// Returns the reply for the result of a finish.
 fn reply_to_finish(answer: Result<(), NotTaken>) -> StepReply
     ensures { result ≡ finish_reply answer }
 {

@@ -8,7 +8,7 @@ pub enum StepError {
     /// There was not enough memory.
     #[error("out of memory")]
     Memory,
-    /// As many slots are live as there is room for; the slot would take `len` bytes.
+    /// The maximum number of slots is live; the new slot would take `len` bytes.
     #[error("all {max} slots are live")]
     TooManyBlocks { max: u64, len: u64 },
     /// No gap has `len` bytes, those of the slot; the longest has `largest`.

@@ -1,4 +1,4 @@
-//! The sweep over code of any length, in memory of fixed size: a line is written before the next byte is asked for.
+//! The sweep over code of any length, in memory of fixed size. It writes a line before it reads the next byte.
 #![tactic(auto)]
 
 mod error;

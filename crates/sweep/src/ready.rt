@@ -32,11 +32,11 @@ pub struct Handled {
     pub used: usize,
     /// How many these items are.
     pub count: u64,
-    /// Why the command ends behind them, where it does.
+    /// Why the command ends after them, if it does.
     pub stop: Option<DecodeError>,
 }
 
-/// Writes the line of the item at the front of some bytes, or holds it back, where the command has one.
+/// Writes or buffers the line of the item at the front of some bytes, if the command has one.
 fn write_item<K: Sink>(
     bits: Bits,
     base: u64,
@@ -64,7 +64,7 @@ fn write_item<K: Sink>(
     Ok(Step::Line { count })
 }
 
-/// Whether the item at the front of so many bytes can be handled: it has 15 bytes, or all that are to come.
+/// Returns whether the item at the front of so many bytes can be handled: 15 bytes of it are there, or all that will come.
 #[inline]
 fn is_ready(left: usize, ended: bool) -> bool
     ensures ready { result ≡ true → (0 < left) × (left < 15 → ended ≡ true) }
@@ -73,7 +73,7 @@ fn is_ready(left: usize, ended: bool) -> bool
     left >= LONGEST || (ended && left > 0)
 }
 
-/// Writes the lines of the items at the front of some bytes, which stand at an offset of the code, as far as 15 bytes of each are there. Where the input
+/// Writes the lines of the items at the front of some bytes, which lie at an offset of the code, as far as 15 bytes of each are there. If the input
 /// has ended, `ended`, all items are handled. It ends before an item for which the command has no line.
 pub(crate) fn write_ready<K: Sink>(
     bits: Bits,

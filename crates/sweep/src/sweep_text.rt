@@ -1,5 +1,4 @@
-//! The sweep over the bytes of code, and the lines that are written of its items: those of a listing, and those that tell
-//! something of each instruction.
+//! The sweep over the bytes of code, and the lines for its items: listings, and information about each instruction.
 
 mod info;
 pub mod laws;

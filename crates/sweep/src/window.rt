@@ -1,4 +1,4 @@
-//! The window over the input: the bytes that were read and are not yet handled stand at its front.
+//! The window over the input. The bytes that are read and not yet handled are at its front.
 
 ghost use Rattle.std.specs.Prelude.{◌≡◌, ◌+◌, ◌<◌, ◌≤◌, ◌-◌, length, take, drop, IfOk, OnErr};
 ghost use Rattle.byte_ports.specs.Ports.{HasCause};
@@ -11,7 +11,7 @@ use byte_ports::{Failed, Source};
 /// The bytes of the window.
 pub(crate) const WINDOW_LEN: usize = 16_384;
 
-/// Takes at most `room` bytes of a source behind the first `len` of the window, and answers how many. 0 is the end.
+/// Reads at most `room` bytes of a source after the first `len` of the window, and returns their number. 0 is the end.
 pub(crate) fn fill<S: Source>(
     source: &mut S,
     window: &mut [u8],

@@ -204,7 +204,7 @@ fn append_sum<const N: usize>(out: &mut ArrayVec<u8, N>, style: Style, asize: Bi
     append_signed_displacement(out, style, asize, m);
 }
 
-/// Appends what stands inside the brackets.
+/// Appends what is inside the brackets.
 #[tactic(auto, unfolding(crate::specs::Addresses::inside))]
 fn append_inside<const N: usize>(out: &mut ArrayVec<u8, N>, style: Style, asize: Bits, m: &Mem)
     requires { array_vec_len out.old + length (spec.inside style asize m.now) ≤ N }

@@ -12,7 +12,7 @@ pub enum LetterCase {
     Either,
 }
 
-/// The value of the digits `A` to `F`, where letters may be of either case.
+/// Returns the value of the digits `A` to `F`, if letters may have either case.
 #[inline]
 #[tactic(auto, unfolding(crate::specs::DigitValues::upper_value))]
 fn upper_value(letters: LetterCase, c: u8) -> Option<u8>

@@ -156,7 +156,7 @@ fn append_far<const N: usize>(out: &mut ArrayVec<u8, N>, style: Style, selector:
     append_number(out, style, u64::from(offset));
 }
 
-/// Appends operand `n` with what stands in front of it, in a style with brackets. Nothing is called for one that is absent.
+/// Appends operand `n` and the separator before it, in a style with brackets. Absent operands are never passed.
 #[inline(always)]
 #[tactic(auto, unfolding(crate::specs::Layout::operand_part, crate::specs::Layout::separator, crate::specs::Layout::bracket_operand))]
 fn append_operand_part<const N: usize>(
@@ -187,7 +187,7 @@ fn append_operand_part<const N: usize>(
     }
 }
 
-/// Appends the text of an instruction of a row with this name, where there is room for it.
+/// Appends the text of an instruction of a row with this name. `out` must have enough space left.
 #[tactic(auto, unfolding(crate::specs::Layout::bracket_layout))]
 fn append_short<const N: usize>(
     out: &mut ArrayVec<u8, N>,

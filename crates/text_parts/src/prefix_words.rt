@@ -45,7 +45,7 @@ pub fn has_memory(instr: &Instr) -> bool
     instr.ops.iter().any(|op| op.is_memory())
 }
 
-/// Appends the segment's name, where no operand is memory.
+/// Appends the segment's name, if no operand is memory.
 #[tactic(auto, unfolding(crate::specs::PrefixWords::segment_word))]
 fn append_segment_word<const N: usize>(out: &mut ArrayVec<u8, N>, instr: &Instr)
     requires { array_vec_len out.old + length (spec.segment_word instr.now) ≤ N }
@@ -148,7 +148,7 @@ fn is_counter_jump(name: &[u8]) -> bool
     name == b"jrcxz".as_slice()
 }
 
-/// Whether an address size has a word of its own.
+/// Returns whether an address size has its own word.
 #[tactic(auto, unfolding(crate::specs::PrefixWords::needs_address_word))]
 fn needs_address_word(bits: Bits, size: Bits, name: &[u8], instr: &Instr) -> bool
     ensures { result ≡ spec.needs_address_word bits size name.now instr.now }
@@ -156,7 +156,7 @@ fn needs_address_word(bits: Bits, size: Bits, name: &[u8], instr: &Instr) -> boo
     differs(size, bits) && !is_counter_jump(name) && !some_shows_address_size(instr)
 }
 
-/// Appends the address size, where it is not the mode's and nothing else shows it.
+/// Appends the address size, if it is not the mode's and nothing else shows it.
 #[tactic(auto, unfolding(crate::specs::PrefixWords::address_word))]
 fn append_address_word<const N: usize>(
     out: &mut ArrayVec<u8, N>,
@@ -210,7 +210,7 @@ fn usual_size(bits: Bits, row: &Row) -> Bits
     }
 }
 
-/// Appends the operand size, where the row is printed with it and it is not the usual one.
+/// Appends the operand size, if the row is printed with it and it is not the default.
 #[tactic(auto, unfolding(crate::specs::PrefixWords::operand_size_word))]
 fn append_operand_size_word<const N: usize>(out: &mut ArrayVec<u8, N>, bits: Bits, row: &Row)
     requires { array_vec_len out.old + length (spec.operand_size_word bits row.now) ≤ N }

@@ -150,7 +150,7 @@ fn append_register_name<const N: usize>(out: &mut ArrayVec<u8, N>, style: Style,
     }
 }
 
-/// Appends what stands in front of a register's name: `%` in AT&T.
+/// Appends the sign before a register's name: `%` in AT&T.
 #[inline]
 #[tactic(auto, unfolding(crate::specs::Registers::sigil))]
 fn append_sigil<const N: usize>(out: &mut ArrayVec<u8, N>, style: Style)

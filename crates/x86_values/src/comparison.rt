@@ -47,7 +47,7 @@ pub fn same_register(a: Register, b: Register) -> bool
     }
 }
 
-/// Whether two registers, each of which may be absent, are one or both absent.
+/// Returns whether two optional registers are equal.
 fn same_register_option(a: Option<Register>, b: Option<Register>) -> bool
     ensures { IsTrue result ↔ (a ≡ b) }
 {
@@ -116,7 +116,7 @@ fn same_rep(a: Rep, b: Rep) -> bool
     a == b
 }
 
-/// Whether two segment registers, each of which may be absent, are one or both absent.
+/// Returns whether two optional segment registers are equal.
 fn same_segment_option(a: Option<Segment>, b: Option<Segment>) -> bool
     ensures { IsTrue result ↔ (a ≡ b) }
 {
@@ -141,7 +141,7 @@ pub fn same_bits(a: Bits, b: Bits) -> bool
     }
 }
 
-/// Whether two sizes, each of which may be absent, are one or both absent.
+/// Returns whether two optional sizes are equal.
 fn same_bits_option(a: Option<Bits>, b: Option<Bits>) -> bool
     ensures { IsTrue result ↔ (a ≡ b) }
 {

@@ -1,4 +1,4 @@
-//! What stands where in the least layout.
+//! The place of everything in the least layout.
 
 ghost use Rattle.std.specs.Prelude.{◌≡◌, ◌++◌, ◌+◌, ◌<◌, ◌^◌, IfOk, OnOk, length};
 ghost use Rattle.branch_sizes.specs.Layout.{first_of_block};
@@ -33,11 +33,11 @@ pub struct Fragment {
 /// The end of a block.
 #[derive(Clone, Copy, PartialEq, Eq, Debug)]
 pub struct BlockEnd {
-    /// The address behind its images.
+    /// The address after its images.
     pub images: u128,
     /// How many slots it has.
     pub slots: usize,
-    /// The address behind the block with its gap and its slots.
+    /// The address after the block with its gap and its slots.
     pub end: u128,
 }
 
@@ -49,8 +49,8 @@ pub struct Layout {
     pub slots: Vec<u128>,
 }
 
-/// Where item `k` stands in a block whose slots begin at `start`. `goals` are those in the slots of the items before
-/// it, `numbers` their numbers, and a new far goal is added to both.
+/// Returns where item `k` lies in a block whose slots begin at `start`. `goals` are the goals in the slots of the items before it, and `numbers`
+/// their numbers. A new far goal is added to both.
 fn fragment_of(
     tables: &Tables,
     k: usize,
@@ -82,8 +82,7 @@ fn fragment_of(
     })
 }
 
-/// Lays out block `b` behind the blocks before it: adds its items to `fragments` and its slots to `slots`, and says where
-/// it ends.
+/// Lays out block `b` after the blocks before it: adds its items to `fragments` and its slots to `slots`, and returns where it ends.
 fn lay_block(
     alloc: Global,
     tables: &Tables,

@@ -1,4 +1,4 @@
-//! The choice of an item, the address of its goal, and where the images of a block end.
+//! The choice of an item, the address of its goal, and the end of a block's images.
 
 ghost use Rattle.std.specs.Prelude.{◌≡◌, ◌<◌, ◌^◌, length};
 ghost use Rattle.branch_sizes.specs.Layout.{item_choice, first_of_block};
@@ -28,7 +28,7 @@ pub(crate) fn goal_of(tables: &Tables, k: usize) -> u128
     }
 }
 
-/// The address behind the images of block `b`, whose first item is item `first`.
+/// Returns the address after the images of block `b`, whose first item is item `first`.
 pub(crate) fn images_end_of(tables: &Tables, b: usize, first: usize) -> u128
     requires block { b < length tables.now.spans.now }
     requires first { first ≡ first_of_block tables.now.spans.now b }

@@ -13,7 +13,7 @@ pub trait Executor<C, R> {
     /// What it was, the command, the reply, and what it is then.
     ghost is_done: { Self → C → R → Self → Type 0 };
 
-    /// Does one command, and answers it.
+    /// Executes a command, and returns its reply.
     fn execute(&mut self, alloc: Global, command: C) -> R
         requires { is_fit self.old command }
         ensures { is_done self.old command result self.new };

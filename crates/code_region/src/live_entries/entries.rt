@@ -1,4 +1,4 @@
-//! What stands for a live block.
+//! What a client keeps for a live block.
 
 ghost use Rattle.std.specs.Prelude.{◌≡◌, ℕ};
 ghost use Rattle.code_region.specs.State.{LiveBlock};
@@ -8,7 +8,7 @@ pub trait LiveEntry {
     /// What its block depends on beside the entry.
     ghost Setting: { Type 0 };
 
-    /// The address where its block starts.
+    /// The address of its block.
     ghost place_of: { Self → ℕ };
 
     /// How many bytes its block takes.
@@ -17,7 +17,7 @@ pub trait LiveEntry {
     /// A live block is that of the entry.
     ghost is_block_in: { Setting → Self → LiveBlock → Type 0 };
 
-    /// The address where its block starts.
+    /// Returns the address of its block.
     fn place(&self) -> u64
         ensures { result ≡ place_of self.now };
 

@@ -1,4 +1,4 @@
-//! The parts of an instruction's bytes, one behind the other.
+//! The parts of an instruction's bytes, in order.
 
 ghost use Rattle.std.specs.Prelude.{◌≡◌, ◌≤◌, ◌<◌, ◌+◌};
 ghost use Rattle.row_fit.specs.Fits.{kind_at, immediate_bytes};
@@ -29,8 +29,8 @@ pub struct ByteOffsets {
     pub sib: Part,
     /// The displacement of a memory operand, and the absolute address of a `mov` of the accumulator.
     pub displacement: Part,
-    /// The bytes behind the instruction that are operand `n`'s own: an immediate, the offset of a near branch or the last byte of a VEX instruction,
-    /// which names a register; of a far pointer first its offset and then its selector, which has 2 bytes.
+    /// The bytes after the displacement that belong to operand `n`: an immediate, the offset of a near branch, or the last byte of a VEX instruction,
+    /// which names a register. For a far pointer they are the offset and then the selector, which has 2 bytes.
     pub immediates: [Part; 4],
     /// How many bytes the instruction has.
     pub len: u8,
@@ -46,7 +46,7 @@ pub(crate) struct Lengths {
     pub(crate) displacement: u8,
 }
 
-/// The bytes that operand `n` has behind the displacement.
+/// Returns the number of bytes of operand `n` after the displacement.
 fn immediate_len(size: Bits, row: &Row, n: usize) -> u8
     requires { n < 4 }
     ensures value { result ≡ immediate_bytes size (kind_at row.now n) }

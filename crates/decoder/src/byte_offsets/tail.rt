@@ -1,4 +1,4 @@
-//! ModRM and SIB of the bytes behind an opcode byte, and the lengths that follow.
+//! ModRM and SIB of the bytes after an opcode byte, and the lengths that follow.
 
 ghost use Rattle.std.specs.Prelude.{◌≡◌, ◌+◌, ◌≤◌, length};
 ghost use Rattle.instruction_parts.specs.Bytes.{lead_bytes, modrm_bytes, sib_bytes};
@@ -26,7 +26,7 @@ fn has_modrm(row: &Row) -> bool
     }
 }
 
-/// The ModRM at the front of the tail, where the row has one.
+/// Returns the ModRM at the front of the tail, if the row has one.
 fn modrm_in(row: &Row, tail: &[u8]) -> Option<ModRm>
     ensures { result ≡ parts.modrm_in row.now tail.now }
 {
@@ -48,7 +48,7 @@ fn takes_sib(bits: Bits, row: &Row, state: &PrefixState, modrm: ModRm) -> bool
     reads_mode(row) && needs_sib(state_address_size(bits, state), modrm)
 }
 
-/// The SIB, where the ModRM before it takes one.
+/// Returns the SIB, if the ModRM before it requires one.
 #[tactic(auto, unfolding(crate::specs::ByteOffsets::Tails::sib_in))]
 fn sib_in(
     bits: Bits,
@@ -72,7 +72,7 @@ fn sib_in(
     }
 }
 
-/// The bytes of the displacement that ModRM and SIB ask for, or of an absolute address.
+/// Returns the number of bytes of the displacement that ModRM and SIB require, or of an absolute address.
 #[tactic(auto, unfolding(modrm_sib::specs::Parts::displacement_len))]
 fn displacement_len(
     bits: Bits,

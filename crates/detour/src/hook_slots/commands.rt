@@ -40,7 +40,7 @@ pub enum HookReply {
     NotTaken { place: u64 },
 }
 
-/// The reply that says what an install answered.
+/// Returns the reply for the result of an install.
 fn reply_to_install(answer: Result<u64, InstallError>) -> HookReply
     ensures { result ≡ install_reply answer }
 {
@@ -50,7 +50,7 @@ fn reply_to_install(answer: Result<u64, InstallError>) -> HookReply
     }
 }
 
-/// The reply that says what a removal answered.
+/// Returns the reply for the result of a removal.
 fn reply_to_remove(answer: Result<Hook, NotTaken>) -> HookReply
     ensures { result ≡ remove_reply answer }
 {

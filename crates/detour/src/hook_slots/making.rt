@@ -27,7 +27,7 @@ pub struct Hook {
     pub start: StartTarget,
     /// The patch, which goes over the function's first bytes, and the trampoline.
     pub detour: Detour,
-    /// The function's own bytes where the patch goes, as many: they undo it.
+    /// The function's original bytes under the patch. Writing them back undoes it.
     pub original: Vec<u8>,
 }
 
@@ -73,7 +73,7 @@ fn detour_refusal(why: DetourError) -> InstallError
     }
 }
 
-/// The hook of a function with its trampoline at a place, where that has no more bytes than a slot.
+/// Returns the hook of a function with its trampoline at a place, if the trampoline fits a slot.
 fn hook_at(
     alloc: Global,
     bits: Bits,

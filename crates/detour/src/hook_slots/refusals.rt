@@ -26,7 +26,7 @@ pub enum InstallError {
     /// There was not enough memory.
     #[error("out of memory")]
     Memory,
-    /// Each of the slots, of which there are `max`, has a hook.
+    /// Each of the `max` slots has a hook.
     #[error("all {max} slots are taken")]
     Full { max: u64 },
     /// There is no detour, for this cause, which is not `Memory`.

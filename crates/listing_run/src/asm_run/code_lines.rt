@@ -1,4 +1,4 @@
-//! The bytes of lines, one behind another.
+//! The bytes of lines, one after another.
 
 ghost use Rattle.std.specs.Prelude.{◌≡◌, ◌<◌, ◌≤◌, ◌∷◌, length, IfOk, IfErr};
 ghost use Rattle.listing_run.specs.AsmRun.Lines.{lines_in};

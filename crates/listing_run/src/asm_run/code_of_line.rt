@@ -9,7 +9,7 @@ use intel_reader::assemble;
 use text_parts::digit_values::{LetterCase, digit_value};
 use x86_values::Bits;
 
-/// The number of two digits, the first of which is not 0.
+/// Returns the number of two digits, the first of which is not 0.
 #[inline]
 #[tactic(auto, unfolding(crate::specs::AsmRun::Bytes::two_digits))]
 fn two_digits(high: Option<u8>, low: Option<u8>) -> Option<u8>

@@ -11,7 +11,7 @@ use std::alloc::{AllocError, Global};
 /// The address of the first byte of made code.
 pub const CODE_BASE: u64 = 0x40_0000;
 
-/// The state behind another one.
+/// Returns the state after another one.
 #[tactic(auto, unfolding(crate::specs::SampleRun::Generator::next_state))]
 fn next_state(state: u64) -> u64
     ensures { result ≡ spec.next_state state }
@@ -21,7 +21,7 @@ fn next_state(state: u64) -> u64
         .wrapping_add(1_442_695_040_888_963_407)
 }
 
-/// Appends some bytes, and behind them a number in four bytes, the lowest first.
+/// Appends some bytes, and after them a number in four bytes, lowest first.
 fn append_with_number(code: &mut Vec<u8>, front: &[u8], number: u64) -> Result<(), AllocError>
     ensures { OnOk result (code.new.items ≡ code.old.items ++ (front.now ++ low_bytes 4 number)) }
 {

@@ -34,7 +34,7 @@ pub struct Summary {
     pub bytes: usize,
     /// How many bytes their listing in the Intel style has.
     pub text: u64,
-    /// How many bytes they have where they were moved to.
+    /// The number of bytes at the new address.
     pub moved: usize,
     /// How many have another form there than their first.
     pub grown: u64,
@@ -66,7 +66,7 @@ fn listing_len(code: &[u8]) -> u64
     text
 }
 
-/// The form of an instruction that comes first.
+/// Returns the form of an instruction that comes first.
 fn first_form(instr: &Instr) -> Form
     ensures { result ≡ spec.first_form instr.now }
 {

@@ -125,7 +125,7 @@ fn branch_choices(bits: Bits, instr: &Instr, branch: RelativeBranch) -> ArrayVec
     }
 }
 
-/// One choice, of the instruction itself.
+/// Returns one choice, the instruction itself.
 #[inline]
 fn alone(len: u8) -> ArrayVec<Choice, 3>
     ensures { result.items ≡ record { form = Itself; len = len; reach = Always } ∷ [] }

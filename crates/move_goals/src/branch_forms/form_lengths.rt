@@ -23,7 +23,7 @@ fn size_byte(bits: Bits, size: Bits) -> u8
     }
 }
 
-/// 67 stands for an address size that is not the mode's own.
+/// Returns the number of 67 prefixes: 1 if the address size is not the mode's.
 fn address_byte(bits: Bits, asize: Option<Bits>) -> u8
     ensures value { result ≡ spec.address_byte bits asize }
     ensures small { result ≤ 1 }
@@ -37,7 +37,8 @@ fn address_byte(bits: Bits, asize: Option<Bits>) -> u8
     }
 }
 
-/// The bytes of an offset of the operand size: in 64-bit mode four. In 16-bit mode a branch that 64-bit mode alone has counts as one of 16 bits.
+/// Returns the number of bytes of an offset of the operand size: in 64-bit mode four. In 16-bit mode a branch that only 64-bit mode has counts as one
+/// of 16 bits.
 fn offset_bytes(bits: Bits, size: Bits) -> u8
     ensures value { result ≡ spec.offset_bytes bits size }
     ensures small { result ≤ 4 }
@@ -59,7 +60,7 @@ fn near_bytes(bits: Bits, action: Action, size: Bits) -> u8
     }
 }
 
-/// A branch with an offset of 8 bits. For a CALL, which has none, its own code stands.
+/// Returns the number of bytes of a branch with an 8-bit offset. A CALL has none; its own code is used.
 fn short_bytes(bits: Bits, action: Action, size: Bits, asize: Option<Bits>) -> u8
     ensures value { result ≡ spec.short_bytes bits action size asize }
     ensures small { result ≤ 7 }
@@ -78,7 +79,7 @@ fn slot_bytes(bits: Bits) -> u8
     6 + address_byte(bits, Some(Bits::B64))
 }
 
-/// How many bytes the image of a relative branch in a form has, wherever it stands and is aimed.
+/// Returns the number of bytes of the image of a relative branch in a form, for every place and goal.
 pub(crate) fn branch_length(bits: Bits, instr: &Instr, branch: RelativeBranch, form: Form) -> u8
     requires { branches.branch_of instr.now ≡ Some branch }
     ensures { result ≡ images.form_length bits instr.now form }

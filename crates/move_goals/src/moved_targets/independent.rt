@@ -1,4 +1,4 @@
-//! Bytes that do not depend on where they stand.
+//! Bytes that do not depend on their address.
 
 ghost use Rattle.std.specs.Prelude.{◌≡◌, ◌<◌, length};
 ghost use Rattle.move_goals.specs.MovedTargets.Independent as spec;

@@ -1,4 +1,4 @@
-//! What holds of plain spellings wherever they stand and are aimed, as the contracts of functions that do nothing.
+//! Laws of plain spellings for every address and every target, as contracts of functions that do nothing.
 
 ghost use Rattle.std.specs.Prelude.{◌≡◌, ◌+◌, ◌≤◌, ◌<◌, ◌^◌, ℕ, List, Some, None, Ok, length};
 ghost use Rattle.x86_values.specs.declared.Bits.{Bits};

@@ -15,7 +15,7 @@ use sweep::sweep_text::read_at;
 use x86_values::laws::wrapped_twice;
 use x86_values::wrap;
 
-/// The status that tells why the instruction of this number gets no slot.
+/// Returns the status for the instruction of this number that gets no slot.
 fn status_of(number: u64, why: StepError) -> Status
     ensures { result ≡ spec.step_status number why }
 {
@@ -27,7 +27,7 @@ fn status_of(number: u64, why: StepError) -> Status
     }
 }
 
-/// Gives the instruction of this number a slot, or tells by a status why it gets none. Behind one that got none there are no more slots.
+/// Gives the instruction of this number a slot, or returns the status of the refusal. After a refusal there are no more slots.
 fn step_next(
     alloc: Global,
     slots: &mut StepSlots,

@@ -1,4 +1,4 @@
-//! Lines: of which rows each speaks.
+//! Lines, and the rows that each is about.
 
 use instruction_parts::row_types::{LBit, OpKind, Row};
 

@@ -318,7 +318,7 @@ impl Told {
         true
     }
 
-    /// Takes the bytes of the memory operand, where the row has one of no size.
+    /// Takes the size in bytes of the memory operand, if the row has one without a size.
     fn take_size(&mut self, code: Code, sizes: &str) -> bool
         requires { code.0 < ROWS }
     {

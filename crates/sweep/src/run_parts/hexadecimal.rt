@@ -19,7 +19,7 @@ fn hex_digit(d: u8) -> u8
     if d < 10 { b'0' + d } else { b'a' - 10 + d }
 }
 
-/// Writes the digits of a number to the end of some places, and answers where they begin.
+/// Writes the digits of a number to the end of a buffer, and returns where they begin.
 #[tactic(auto, unfolding(crate::specs::RunParts::Hexadecimal::hex_number))]
 fn write_digits(n: u128, places: &mut [u8; 64]) -> usize
     ensures within { result ≤ 64 }

@@ -29,7 +29,7 @@ enum ReadError {
     TooLarge,
 }
 
-/// Reads a piece of at most `room` bytes behind what was read, and answers its length. 0 is the end.
+/// Reads a piece of at most `room` bytes after the previous ones, and returns its length. 0 is the end.
 fn read_piece<S: Source>(
     source: &mut S,
     chunk: &mut [u8],
@@ -57,7 +57,7 @@ fn read_piece<S: Source>(
     }
 }
 
-/// Reads a source to its end, a chunk at a time, behind nothing.
+/// Reads a source to its end, a chunk at a time, into an empty buffer.
 fn read_chunks<S: Source>(
     source: &mut S,
     limit: u32,
@@ -84,9 +84,10 @@ fn read_chunks<S: Source>(
     Err(ReadError::TooLarge)
 }
 
-/// Reads a source to its end, where it has at most `limit` bytes. Whatever the answer is, it takes at most one byte more.
+/// Reads a source of at most `limit` bytes to its end. In any case it reads at most one byte more.
 ///
-/// `Fault` comes only where the source failed, and the source is not asked again; `TooLarge` only where one byte more than the limit was taken, and `Memory` at any point.
+/// `Fault` occurs only if the source failed; then the source is not read again. `TooLarge` occurs only if one byte more than the limit was read.
+/// `Memory` can occur at any point.
 fn read_all<S: Source>(alloc: Global, source: &mut S, limit: u32) -> Result<Vec<u8>, ReadError>
     ensures ok { IfOk result (λ input. ReadsAll limit (S.left source.old) (S.left source.new) input.items) }
     ensures fault { IsErrOf result ReadError.Fault → Rose (S.faults source.old) (S.faults source.new) }

@@ -59,7 +59,7 @@ pub fn status_number(status: &Status) -> u8
     }
 }
 
-/// Appends a number in decimal digits and a text behind it.
+/// Appends a number in decimal digits and a text.
 fn append_number(text: &mut Text, number: u64, back: &[u8])
     requires back { length back.now ≤ 30 }
     requires room { array_vec_len text.old ≤ 110 }
@@ -70,7 +70,7 @@ fn append_number(text: &mut Text, number: u64, back: &[u8])
     append(text, back);
 }
 
-/// A text, a number in decimal and a text behind it.
+/// Returns a text, a number in decimal and a text.
 fn with_number(front: &[u8], number: u64, back: &[u8]) -> Text
     requires front { length front.now ≤ 20 }
     requires back { length back.now ≤ 30 }
@@ -93,7 +93,7 @@ fn plain(words: &[u8]) -> Text
     text
 }
 
-/// Appends a number in hexadecimal digits and a text behind it.
+/// Appends a number in hexadecimal digits and a text.
 fn append_hexadecimal_number(text: &mut Text, number: u128, back: &[u8])
     requires back { length back.now ≤ 26 }
     requires room { array_vec_len text.old ≤ 70 }
@@ -121,7 +121,7 @@ fn too_far_line(at: u64, target: u64) -> Text
     text
 }
 
-/// The line of a region that has no room.
+/// Returns the line of a region in which no gap is long enough.
 fn region_full_line(len: u64, largest: u64) -> Text
     ensures { result.items ≡ codes "region full: need " ++ decimal len ++ codes ", largest " ++ decimal largest ++ codes "\n" }
 {

@@ -49,7 +49,7 @@ fn append_flow(out: &mut Chunk, flow: Flow)
     }
 }
 
-/// Appends an access behind a space: none, a read, a write, or both.
+/// Appends a space and an access: none, a read, a write, or both.
 #[inline]
 #[tactic(auto, unfolding(crate::specs::SweepText::Info::access_name))]
 fn append_access(out: &mut Chunk, access: Access)
@@ -65,7 +65,7 @@ fn append_access(out: &mut Chunk, access: Access)
     }
 }
 
-/// Appends the access of an operand, nothing where there is none.
+/// Appends the access of an operand, or nothing if there is none.
 #[inline]
 #[tactic(auto, unfolding(crate::specs::SweepText::Info::access_word))]
 fn append_operand_access(out: &mut Chunk, operand: &Operand, access: Access)
@@ -79,7 +79,7 @@ fn append_operand_access(out: &mut Chunk, operand: &Operand, access: Access)
     }
 }
 
-/// Appends the access of operand `n` as a word, nothing where there is none.
+/// Appends the access of operand `n` as a word, or nothing if there is none.
 #[inline]
 #[tactic(auto, unfolding(crate::specs::SweepText::Info::operand_word))]
 fn append_operand_word(out: &mut Chunk, instr: &Instr, n: usize)
@@ -92,7 +92,7 @@ fn append_operand_word(out: &mut Chunk, instr: &Instr, n: usize)
     append_operand_access(out, &instr.ops[n], access_of(instr.code, n));
 }
 
-/// Appends a size in bytes behind its sign.
+/// Appends a size in bytes after its sign.
 #[inline]
 fn append_size(out: &mut Chunk, size: u8)
     requires { array_vec_len out.old + 5 ≤ CHUNK_LEN }
@@ -107,7 +107,7 @@ fn append_size(out: &mut Chunk, size: u8)
     }
 }
 
-/// Appends the size of the memory operand in bytes, where there is one that has a size.
+/// Appends the size in bytes of the memory operand, if there is one with a size.
 #[tactic(auto, unfolding(crate::specs::SweepText::Info::memory_word))]
 fn append_memory(out: &mut Chunk, instr: &Instr)
     requires code { instr.now.code.0 < ROWS }
@@ -121,7 +121,7 @@ fn append_memory(out: &mut Chunk, instr: &Instr)
     }
 }
 
-/// Appends an address behind a sign, where there is one.
+/// Appends a sign and an address, if there is one.
 #[inline]
 #[tactic(auto, unfolding(crate::specs::SweepText::Info::signed_address))]
 fn append_address_word(out: &mut Chunk, sign: &[u8], address: Option<u64>)

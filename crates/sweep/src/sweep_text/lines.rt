@@ -26,9 +26,9 @@ pub enum Lines {
     /// the size of its memory operand in bytes, its near target, and the address of its operand relative to the next
     /// instruction. There is no line for a single byte.
     Info,
-    /// The bytes of the plain spelling of each instruction in the mode `to`, as far behind the address `new_base` as the
-    /// instruction follows the first byte. Where it has none, as `! 3 1`: the number of the first condition that fails,
-    /// and the operand that it names. There is no line for a single byte.
+    /// The bytes of the plain spelling of each instruction in the mode `to`. The new address of an instruction is as far from `new_base` as the old
+    /// one is from the first byte. An instruction without a plain spelling gives a line such as `! 3 1`: the number of the first condition that
+    /// fails, and the operand that it names. A single byte has no line.
     Recode { to: Bits, new_base: u64 },
 }
 
@@ -62,8 +62,7 @@ fn append_info_line(out: &mut Chunk, bits: Bits, base: u64, offset: usize, instr
     append_few(out, b"\n");
 }
 
-/// Appends the line of an instruction with its spelling in the mode `to`, as far behind the address `new_base`; apart from its
-/// caller like the other.
+/// Appends the line of an instruction with its spelling in the mode `to`. Like the other one it is not inlined.
 #[inline(never)]
 #[tactic(auto, using(crate::proofs::SweepText::Lengths::two_parts), unfolding(crate::specs::SweepText::Lines::instr_line))]
 fn append_recode_line(

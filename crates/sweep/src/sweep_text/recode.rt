@@ -1,4 +1,4 @@
-//! What recoding tells of an instruction: the bytes of its plain spelling, or the first condition that it fails.
+//! The result of `recode` for an instruction: the bytes of its plain spelling, or the first condition that fails.
 
 ghost use Rattle.std.specs.Prelude.{◌≡◌, ◌≤◌, ◌+◌, ◌++◌, decimal};
 ghost use Rattle.arrayvec.specs.ArrayVec.{array_vec_len};
@@ -45,7 +45,7 @@ fn cause_operand(why: NoSpelling) -> Option<u8>
     }
 }
 
-/// Appends the number of an operand behind a space, where there is one.
+/// Appends a space and the number of an operand, if there is one.
 #[tactic(auto, unfolding(crate::specs::SweepText::Recode::operand_digits))]
 fn append_operand(out: &mut Chunk, operand: Option<u8>)
     requires { array_vec_len out.old + 4 ≤ CHUNK_LEN }
