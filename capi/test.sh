@@ -53,7 +53,7 @@ if [ -z "$file" ]; then
         say "code: the .text of $program, $(wc -c <"$file") bytes"
         break
     done
-    [ -n "$file" ] || die "no code to list: name a file"
+    [ -n "$file" ] || die "found no code to list: name a file of raw code"
 fi
 front=$work/front.bin
 head -c 300000 "$file" >"$front"
@@ -61,13 +61,13 @@ head -c 300000 "$file" >"$front"
 # ---- the program's listing
 program=$top/crates/listing_program/out/listing_program
 [ -x "$program" ] || (cd "$top/crates/listing_program" && rt run -- --version) >"$work/program.log" 2>&1 || true
-[ -x "$program" ] || { tail -5 "$work/program.log" >&2; die "listing_program is not built"; }
+[ -x "$program" ] || { tail -5 "$work/program.log" >&2; die "rt did not build listing_program: the log is above"; }
 for style in intel att masm; do
     "$program" list 64 401000 $style <"$file" >"$work/program.$style"
 done
 "$program" list 64 401000 intel <"$front" >"$work/front.intel"
 say "program: $(wc -l <"$work/program.intel") lines in each of three styles"
-"$program" rows | "$here/codes.py" --check || die "the codes of the header or of Python"
+"$program" rows | "$here/codes.py" --check || die "the codes of feddurzai.h or of the Python package differ from the rows: run capi/codes.py"
 say "header and Python: the codes of common instructions are those of the program's rows"
 
 # tries_nulls COMPILER STANDARD: every function with NULL, zeros and small rooms, under the sanitizers
@@ -75,8 +75,8 @@ tries_nulls() {
     language=c
     [ "$1" = gcc ] || language=c++
     "$1" "$2" $sanitized $warn -I"$here" -x $language "$here/tests/nulls.c" -x none "$out/libfeddurzai.a" -o "$out/nulls" 2>"$work/cc.log" \
-        || die_with "$work/cc.log" "nulls.c is not built by $1 $2"
-    "$out/nulls" >"$work/nulls.log" || die_with "$work/nulls.log" "$backend: NULL, a zero or a small room is answered otherwise"
+        || die_with "$work/cc.log" "$1 $2 did not compile tests/nulls.c: the log is above"
+    "$out/nulls" >"$work/nulls.log" || die_with "$work/nulls.log" "$backend: a call with NULL, a zero or a small buffer returned something else than expected"
     say "$backend: $(cat "$work/nulls.log") ($1 $2, $sanitizers)"
 }
 
@@ -105,19 +105,19 @@ in_gdb() {
     shift
     for command in "$@"; do printf '%s\n' "$command"; done >"$work/gdb.commands"
     gdb -nx -batch -ex "source $gdb_script" -ex 'break called' -ex run -x "$work/gdb.commands" "$work/debugged" >"$work/gdb.log" 2>&1 || true
-    grep -Eq -- "$wanted" "$work/gdb.log" || die_with "$work/gdb.log" "$*: no line matches $wanted"
-    ! grep -q Traceback "$work/gdb.log" || die_with "$work/gdb.log" "$*: an exception of Python"
+    grep -Eq -- "$wanted" "$work/gdb.log" || die_with "$work/gdb.log" "GDB: after '$*' no line of the output above matches $wanted"
+    ! grep -q Traceback "$work/gdb.log" || die_with "$work/gdb.log" "GDB: '$*' ended with a Python exception"
 }
 
 # lines_are COUNT: how many lines of a listing the last commands wrote
 lines_are() {
-    [ "$(grep -c '^[ =][ >] 0x.*: [0-9a-f]* ' "$work/gdb.log")" = "$1" ] || die_with "$work/gdb.log" "not $1 lines"
+    [ "$(grep -c '^[ =][ >] 0x.*: [0-9a-f]* ' "$work/gdb.log")" = "$1" ] || die_with "$work/gdb.log" "GDB: the output above does not list $1 instructions"
 }
 
 # tries_gdb SCRIPT
 tries_gdb() {
     if ! command -v gdb >/dev/null; then
-        say "$backend: no gdb here, its commands are not tried"
+        say "$backend: skipped the GDB commands: gdb is not installed"
         return
     fi
     gdb_script=$1
@@ -137,7 +137,7 @@ tries_gdb() {
     lines_are 2
     # what can be read before a fault, and the end of the bytes
     in_gdb '^   0x[0-9a-f]+: 4883 +\(the bytes end here\)$' 'feddurzai-list edge 20'
-    grep -Eq '^   0x[0-9a-f]+000: no memory can be read from here on$' "$work/gdb.log" || die_with "$work/gdb.log" 'feddurzai-list edge 20'
+    grep -Eq '^   0x[0-9a-f]+000: no memory can be read from here on$' "$work/gdb.log" || die_with "$work/gdb.log" "GDB: 'feddurzai-list edge 20' does not report unreadable memory"
     lines_are 2
     in_gdb '^   0x[0-9a-f]+: 4883 +\(the bytes end here\)$' 'feddurzai-list edge 3'
     in_gdb 'no memory can be read there' 'feddurzai-list edge+3 20'
@@ -153,12 +153,12 @@ except gdb.error as error:
     print(error)
 end'
     in_gdb ' not 17: it stays 32$' 'set feddurzai-bits 32' "$wrong_bits" 'show feddurzai-bits'
-    grep -q 'feddurzai lists is 32\.$' "$work/gdb.log" || die_with "$work/gdb.log" 'set feddurzai-bits 17'
+    grep -q 'feddurzai lists is 32\.$' "$work/gdb.log" || die_with "$work/gdb.log" "GDB: 'set feddurzai-bits 17' is not refused"
     # what the instruction that ran last did, and what each does
     in_gdb '^ > 0x[0-9a-f]+ <called(\+[0-9]+)?>: ' 'set feddurzai-effects on' stepi 'feddurzai-list'
-    grep -Eq '^      (read|wrote|touches) ' "$work/gdb.log" || die_with "$work/gdb.log" 'set feddurzai-effects on'
+    grep -Eq '^      (read|wrote|touches) ' "$work/gdb.log" || die_with "$work/gdb.log" "GDB: 'set feddurzai-effects on' shows no effects"
     in_gdb '^      reads rsp, .*ss:\[rsp\] 8 bytes; writes rsp$' 'set feddurzai-effects all' 'feddurzai-list called'
-    ! grep -q '^ > ' "$work/gdb.log" || die_with "$work/gdb.log" 'set feddurzai-effects all'
+    ! grep -q '^ > ' "$work/gdb.log" || die_with "$work/gdb.log" "GDB: 'set feddurzai-effects all' marks the current line only"
     wrong_effects='python
 try:
     gdb.execute("set feddurzai-effects maybe")
@@ -166,8 +166,8 @@ except gdb.error as error:
     print(error)
 end'
     in_gdb 'Undefined item: "maybe"' 'set feddurzai-effects all' "$wrong_effects" 'show feddurzai-effects'
-    grep -q 'feddurzai-effects is all)\.$' "$work/gdb.log" || die_with "$work/gdb.log" 'set feddurzai-effects maybe'
-    say "$backend: feddurzai-list and feddurzai-flow in a process that gdb stopped, with debug information and without"
+    grep -q 'feddurzai-effects is all)\.$' "$work/gdb.log" || die_with "$work/gdb.log" "GDB: 'set feddurzai-effects maybe' is not refused"
+    say "$backend: feddurzai-list and feddurzai-flow ran in a stopped process, with and without debug information"
 }
 
 inspector() { "$with_elftools" "$here/examples/inspector.py" "$@"; }
@@ -179,41 +179,41 @@ tries_inspector() {
         "$python" -c 'import elftools' 2>/dev/null && { with_elftools=$python; break; }
     done
     if [ -z "$with_elftools" ]; then
-        say "$backend: no pyelftools here, the inspector is not tried"
+        say "$backend: skipped the inspector: pyelftools is not installed"
         return
     fi
     makes_debugged -g0
     inspector "$work/debugged" main >"$work/main.log"
     for line in 'e8[0-9a-f]{8} +call 0x[0-9a-f]+ <called>' 'call 0x[0-9a-f]+ <mmap@plt>' 'mov qword \[rel 0x[0-9a-f]+\], r[a-z]x <edge>'; do
-        grep -Eq "$line\$" "$work/main.log" || die_with "$work/main.log" "inspector: no line matches $line"
+        grep -Eq "$line\$" "$work/main.log" || die_with "$work/main.log" "inspector: no line of the output above matches $line"
     done
-    inspector "$work/debugged" called --colour always | grep -q "$(printf '\033')\[36mret" || die "inspector: colours"
-    inspector "$work/debugged" | grep -Eq '^[0-9a-f]{16} +[0-9]+ called$' || die "inspector: the functions"
-    inspector "$work/debugged" nowhere 2>&1 | grep -q '^inspector.py: no function and no section' || die "inspector: a wrong name"
-    inspector "$here/test.sh" 2>&1 | grep -q '^inspector.py: ' || die "inspector: no ELF file"
+    inspector "$work/debugged" called --colour always | grep -q "$(printf '\033')\[36mret" || die "inspector: --colour always writes no colours"
+    inspector "$work/debugged" | grep -Eq '^[0-9a-f]{16} +[0-9]+ called$' || die "inspector: the list of functions lacks 'called'"
+    inspector "$work/debugged" nowhere 2>&1 | grep -q '^inspector.py: no function and no section' || die "inspector: an unknown name is not refused"
+    inspector "$here/test.sh" 2>&1 | grep -q '^inspector.py: ' || die "inspector: a file that is not ELF is not refused"
 
     # a stripped file, by the address of a function
     strip -o "$work/stripped" "$work/debugged"
     at=$(inspector "$work/debugged" | awk '$3 == "called" { sub(/^0*/, "", $1); print $1 }')
     inspector "$work/stripped" "0x$at" | grep -v '>:$' | sed 's/ <.*//' >"$work/stripped.log"
-    inspector "$work/debugged" called | grep -v '>:$' | sed 's/ <.*//' | cmp - "$work/stripped.log" || die "inspector: a stripped file"
+    inspector "$work/debugged" called | grep -v '>:$' | sed 's/ <.*//' | cmp - "$work/stripped.log" || die "inspector: a stripped file is listed differently"
 
     # a section, against the program
     inspector "$work/debugged" .text | grep -v '>:$' | sed 's/^ *//; s/ .*//' >"$work/section.log"
     objcopy -O binary --only-section=.text "$work/debugged" "$work/debugged.bin"
-    "$program" list 64 "$(head -1 "$work/section.log")" intel <"$work/debugged.bin" | sed 's/ .*//' | cmp - "$work/section.log" || die "inspector: .text"
+    "$program" list 64 "$(head -1 "$work/section.log")" intel <"$work/debugged.bin" | sed 's/ .*//' | cmp - "$work/section.log" || die "inspector: .text is listed differently from the program"
 
     if ! command -v dot >/dev/null; then
-        say "$backend: examples/inspector.py lists functions and a section; no Graphviz here, no graph is drawn"
+        say "$backend: examples/inspector.py lists functions and a section; skipped the graph: Graphviz is not installed"
         return
     fi
     inspector "$work/debugged" --flow called "$work/called.svg"
-    [ "$(grep -c 'class="edge"' "$work/called.svg")" -ge 2 ] || die_with "$work/called.svg" "inspector: --flow"
+    [ "$(grep -c 'class="edge"' "$work/called.svg")" -ge 2 ] || die_with "$work/called.svg" "inspector: the graph of --flow has fewer than 2 edges"
     inspector "$work/debugged" called --html "$work/called.html"
     # each link goes to a line that is there
     grep -o 'href="#a[0-9a-f]*"' "$work/called.html" | sed 's/.*#\(.*\)"/id="\1"/' | sort -u >"$work/links"
-    [ "$(wc -l <"$work/links")" -ge 5 ] || die "inspector: --html has too few links"
-    while read -r link; do grep -q "$link" "$work/called.html" || die "inspector: --html: nothing is $link"; done <"$work/links"
+    [ "$(wc -l <"$work/links")" -ge 5 ] || die "inspector: the page of --html has fewer than 5 links"
+    while read -r link; do grep -q "$link" "$work/called.html" || die "inspector: the page of --html has no target for its link $link"; done <"$work/links"
     say "$backend: examples/inspector.py lists functions and a section, and writes a graph and a page"
 }
 
@@ -223,12 +223,12 @@ for backend in llvm rattle; do
     say "$backend: built, $(wc -c <"$out/libfeddurzai.a") bytes"
 
     gcc -std=c99 $sanitized $warn -I"$here" "$here/tests/calls.c" "$out/libfeddurzai.a" -o "$out/calls" 2>"$work/cc.log" \
-        || die_with "$work/cc.log" "calls.c is not built"
-    "$out/calls" >"$work/calls.log" || die_with "$work/calls.log" "$backend: a call answered otherwise"
+        || die_with "$work/cc.log" "the C compiler did not compile tests/calls.c: the log is above"
+    "$out/calls" >"$work/calls.log" || die_with "$work/calls.log" "$backend: a call returned something else than expected"
     say "$backend: $(cat "$work/calls.log") ($sanitizers)"
 
     gcc -std=c99 $sanitized $warn -I"$here" "$here/tests/header_examples.c" "$out/libfeddurzai.a" -o "$out/header_examples"
-    "$out/header_examples" >"$work/examples.log" || die_with "$work/examples.log" "$backend: an example of feddurzai.h differs"
+    "$out/header_examples" >"$work/examples.log" || die_with "$work/examples.log" "$backend: an example of feddurzai.h printed something else than expected"
     say "$backend: $(tail -1 "$work/examples.log")"
 
     # the functions of the header that look for NULL are compiled with the caller: as C and as C++
@@ -240,20 +240,20 @@ for backend in llvm rattle; do
     gcc -std=c99 -O2 $warn -I"$here" "$here/examples/disassemble.c" "$out/libfeddurzai.a" -o "$out/disassemble"
     for style in intel att masm; do
         "$out/disassemble" "$file" 64 401000 $style >"$work/c.$style"
-        cmp "$work/c.$style" "$work/program.$style" || die "$backend: the listing in C differs in style $style"
+        cmp "$work/c.$style" "$work/program.$style" || die "$backend: examples/disassemble.c lists differently from the program in style $style"
     done
     say "$backend: examples/disassemble.c lists as the program does, in three styles"
 
     gcc -std=gnu99 -O2 $warn -I"$here" "$here/examples/hook.c" "$out/libfeddurzai.a" -o "$out/hook"
-    "$out/hook" >"$work/hook.log" || die_with "$work/hook.log" "$backend: the hook failed"
+    "$out/hook" >"$work/hook.log" || die_with "$work/hook.log" "$backend: examples/hook.c failed"
     say "$backend: examples/hook.c: $(tail -1 "$work/hook.log")"
 
     gcc -std=gnu99 -O2 $warn -I"$here" "$here/examples/hook_many.c" "$out/libfeddurzai.a" -ldl -o "$out/hook_many"
-    "$out/hook_many" >"$work/hook_many.log" || die_with "$work/hook_many.log" "$backend: a hook of many failed"
+    "$out/hook_many" >"$work/hook_many.log" || die_with "$work/hook_many.log" "$backend: examples/hook_many.c failed"
     say "$backend: examples/hook_many.c: $(sed -n 's/\(functions hooked\) at once.*/\1/p' "$work/hook_many.log" | paste -sd, -); $(tail -1 "$work/hook_many.log")"
 
     gcc -std=gnu99 -O2 $warn -I"$here" "$here/examples/step.c" "$out/libfeddurzai.a" -o "$out/step"
-    "$out/step" >"$work/step.log" || die_with "$work/step.log" "$backend: an instruction was not stepped as it runs"
+    "$out/step" >"$work/step.log" || die_with "$work/step.log" "$backend: examples/step.c: a stepped instruction had another result"
     say "$backend: examples/step.c: $(tail -1 "$work/step.log")"
 
     # at each instruction that runs, the stack is walked to main by the unwind information that build.sh adds
@@ -261,20 +261,20 @@ for backend in llvm rattle; do
     # the .debug_frame of `rattle` calls registers undefined that are saved late: their values are not compared
     compared=registers
     [ "$backend" = llvm ] || compared=frames
-    "$out/unwind" $compared >"$work/unwind.log" || die_with "$work/unwind.log" "$backend: unwind information"
+    "$out/unwind" $compared >"$work/unwind.log" || die_with "$work/unwind.log" "$backend: tests/unwind.c: the stack was not unwound to main"
     say "$backend: $(cat "$work/unwind.log")"
 
     export FEDDURZAI_LIBRARY="$out/libfeddurzai.so"
     python3 "$here/examples/disassemble.py" "$front" 64 401000 intel >"$work/python.intel"
-    cmp "$work/python.intel" "$work/front.intel" || die "$backend: the listing in Python differs"
-    python3 "$here/tests/calls.py" "$here/python" >"$work/python.log" 2>&1 || die_with "$work/python.log" "$backend: Python"
+    cmp "$work/python.intel" "$work/front.intel" || die "$backend: examples/disassemble.py lists differently from the program"
+    python3 "$here/tests/calls.py" "$here/python" >"$work/python.log" 2>&1 || die_with "$work/python.log" "$backend: tests/calls.py failed"
     say "$backend: examples/disassemble.py lists as the program does; $(cat "$work/python.log")"
     # mov eax, edi; neg eax; cmovs eax, edi; ret: RAX is dead before the first, the flags before the second
     printf '\211\370\367\330\017\110\307\303' >"$work/abs.bin"
     python3 "$here/examples/liveness.py" "$work/abs.bin" 64 401000 | sed 's/  */ /g' >"$work/liveness.log"
     printf '%s\n' '0000000000401000 mov eax, edi rax OF SF ZF AF PF CF' '0000000000401002 neg eax OF SF ZF AF PF CF' \
-        '0000000000401004 cmovs eax, edi' '0000000000401007 ret' | cmp - "$work/liveness.log" || die_with "$work/liveness.log" "$backend: liveness.py"
-    say "$backend: examples/liveness.py tells what is dead in a function of four instructions"
+        '0000000000401004 cmovs eax, edi' '0000000000401007 ret' | cmp - "$work/liveness.log" || die_with "$work/liveness.log" "$backend: examples/liveness.py printed something else than expected"
+    say "$backend: examples/liveness.py reports the dead registers of a function of four instructions"
 
     tries_gdb "$here/gdb.py"
     tries_inspector
@@ -284,13 +284,13 @@ done
 # ---- what is installed, from its files alone
 backend=installed
 prefix=$work/prefix
-"$here/install.sh" "$prefix" "$work/llvm" >"$work/install.log" || die_with "$work/install.log" "install.sh"
+"$here/install.sh" "$prefix" "$work/llvm" >"$work/install.log" || die_with "$work/install.log" "install.sh failed: its output is above"
 shared=$(readlink -f "$prefix/lib/libfeddurzai.so")
 others=$(nm -D --defined-only "$shared" | awk '$3 !~ /^feddurzai_/ { print $3 }')
-[ -z "$others" ] || die "installed: the shared library also shows $others"
+[ -z "$others" ] || die "installed: the shared library also exports $others"
 soname=$(readelf -d "$shared" | sed -n 's/.*soname: \[\(.*\)\].*/\1/p')
 [ "$soname" = "libfeddurzai.so.$interface" ] && [ -e "$prefix/lib/$soname" ] || die "installed: the soname is $soname"
-say "installed: $(sed 's/^[^:]*: //' "$work/install.log"), $(basename "$shared") shows $(nm -D --defined-only "$shared" | wc -l) calls and nothing else"
+say "installed: $(sed 's/^[^:]*: //' "$work/install.log"), $(basename "$shared") exports $(nm -D --defined-only "$shared" | wc -l) calls and nothing else"
 
 client=$work/client
 mkdir "$client"
@@ -304,27 +304,27 @@ if command -v pkg-config >/dev/null; then
     ./static "$file" 64 401000 intel | cmp - "$work/program.intel" || die "installed: the static client's listing differs"
     say "installed: a client in C by pkg-config, version $(pkg-config --modversion feddurzai), shared and static, lists as the program does"
 else
-    say "installed: no pkg-config here, no client in C is built"
+    say "installed: skipped the C clients: pkg-config is not installed"
 fi
-PYTHONPATH=$prefix/share/feddurzai/python python3 client.py "$prefix" || die "installed: the client in Python"
-say "installed: a client in Python runs by PYTHONPATH"
+PYTHONPATH=$prefix/share/feddurzai/python python3 client.py "$prefix" || die "installed: the Python client failed"
+say "installed: a Python client runs with PYTHONPATH"
 if python3 -m venv "$work/venv" 2>/dev/null && [ -x "$work/venv/bin/pip" ]; then
     pip() { "$work/venv/bin/pip" --quiet --no-input --disable-pip-version-check "$@"; }
-    pip install --no-index "$prefix/share/feddurzai/python" >"$work/pip.log" 2>&1 || die_with "$work/pip.log" "installed: pip"
-    "$work/venv/bin/python" client.py "$work/venv" || die "installed: the client in Python by pip"
-    "$work/venv/bin/python" "$here/tests/calls.py" >"$work/python.log" 2>&1 || die_with "$work/python.log" "installed: Python by pip"
+    pip install --no-index "$prefix/share/feddurzai/python" >"$work/pip.log" 2>&1 || die_with "$work/pip.log" "installed: pip did not install the package"
+    "$work/venv/bin/python" client.py "$work/venv" || die "installed: the Python client failed with the package that pip installed"
+    "$work/venv/bin/python" "$here/tests/calls.py" >"$work/python.log" 2>&1 || die_with "$work/python.log" "installed: tests/calls.py failed with the package that pip installed"
     pip uninstall --yes feddurzai
     # from the clone, as a package whose sources stay there
-    FEDDURZAI_LIBRARY=$work/llvm/libfeddurzai.so pip install --no-index --editable "$here/python" >"$work/pip.log" 2>&1 || die_with "$work/pip.log" "pip --editable"
-    FEDDURZAI_LIBRARY=$work/llvm/libfeddurzai.so "$work/venv/bin/python" "$here/tests/calls.py" >"$work/python.log" 2>&1 || die_with "$work/python.log" "pip --editable"
-    say "installed: pip takes the folder with no network, and the client runs by it"
+    FEDDURZAI_LIBRARY=$work/llvm/libfeddurzai.so pip install --no-index --editable "$here/python" >"$work/pip.log" 2>&1 || die_with "$work/pip.log" "pip install --editable failed, or tests/calls.py with it"
+    FEDDURZAI_LIBRARY=$work/llvm/libfeddurzai.so "$work/venv/bin/python" "$here/tests/calls.py" >"$work/python.log" 2>&1 || die_with "$work/python.log" "pip install --editable failed, or tests/calls.py with it"
+    say "installed: pip installs the folder without a network, and the client runs"
 else
-    say "installed: no venv with pip here, the package is not installed by pip"
+    say "installed: skipped pip: this Python has no venv"
 fi
 cd "$top"
 tries_gdb "$prefix/share/feddurzai/gdb.py"
 if command -v mypy >/dev/null; then
-    mypy --strict --cache-dir "$work/mypy" "$prefix/share/feddurzai/python/feddurzai" >"$work/mypy.log" || die_with "$work/mypy.log" "mypy"
+    mypy --strict --cache-dir "$work/mypy" "$prefix/share/feddurzai/python/feddurzai" >"$work/mypy.log" || die_with "$work/mypy.log" "mypy: the type hints have errors"
     say "installed: the package's type hints: $(cat "$work/mypy.log")"
 else
     say "installed: no mypy here, the type hints are not checked"

@@ -27,7 +27,7 @@ ROOT = Path(__file__).resolve().parent.parent
 READING_LIST = "docs/proofs.md"
 DOCUMENTS = ["README.md", "docs/**/*.md", "capi/*.md", "bench/*.md", "packaging/*.md"]
 HEADERS = ["capi/feddurzai.h"]
-DOCSTRINGS = ["crates/feddurzai/src/**/*.rt", "crates/feddurzai_c/src/**/*.rt", "crates/c_calls/src/**/*.rt"]
+DOCSTRINGS = ["crates/*/src/**/*.rt"]
 
 # what is refused, and what to write instead
 WORDS = [

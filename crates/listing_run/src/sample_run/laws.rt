@@ -18,7 +18,7 @@ pub fn made_code_has_instructions_alone()
     ensures { (n : ℕ) → n ≤ 65536 → HasInstructions n }
 {}
 
-/// The same number of instructions always gives the same six lines.
+/// Two summaries of the same number of instructions have the same six lines.
 pub fn samples_have_one_text()
     ensures { (n : ℕ) (s t : Summary) → IsSample n s → IsSample n t → summary_text s ≡ summary_text t }
 {
