@@ -75,7 +75,7 @@ from ._operands import Far, Immediate, Memory, Near, Operand, Register, register
 from ._refusal import BlocksReport, DetourReport, InvalidCode, MoveReport, Refusal, StepReport, TooShort
 from ._region import Live, Region
 from ._steps import Step, StepSlot, StepSlots, step, step_len
-from ._told import About, Use
+from ._info import About, Use
 
 __all__ = [
     "About",

@@ -10,7 +10,7 @@ from ._effects import Effects, effects_of
 from ._items import HIGH_AT, LEN_AT, LOW_AT, SIZE, BadByte, Instr, Item, Rest
 from ._numbers import Access, DetourForm, Flow, Form, Jump, Reason, Start, Style
 from ._refusal import DetourReport, MoveReport, refusal_of, taken
-from ._told import About, encode_of, info_of, name_of, text_of
+from ._info import About, encode_of, info_of, name_of, text_of
 
 _InstrRoom = _native.room_of(SIZE)
 # how many instructions one call decodes: few at first, because a caller may stop

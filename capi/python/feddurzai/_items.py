@@ -10,7 +10,7 @@ from . import _checks
 from ._effects import Effects, effects_of
 from ._numbers import ItemKind, Repeat, Segment, Style
 from ._operands import ABSENT, OPERANDS, Memory, Operand, operand_of
-from ._told import About, encode_of, info_of, name_of, text_of
+from ._info import About, encode_of, info_of, name_of, text_of
 
 # feddurzai_instr: four operands, code, len, lock, rep, segment, asize
 _STRUCT = struct.Struct("=" + 4 * "QIH7B3x" + "H5Bx")
