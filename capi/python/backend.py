@@ -1,11 +1,11 @@
-"""How pip makes a wheel of this folder: the package, and the shared library beside it, so that it stands by itself.
+"""The build backend with which pip makes a wheel of this folder: the package together with the shared library, so that it needs nothing else.
 
-The version is the library's. The library is the one that the package would load: capi/out of the clone, the prefix of install.sh, or the
-environment's FEDDURZAI_LIBRARY.
+The wheel has the version of the library. The library is the one that the package would load: capi/out of the clone, the prefix of install.sh, or
+the file that the environment names in FEDDURZAI_LIBRARY.
 
-Two settings are for who makes packages (packaging/build.sh): `platform`, the platform tags of the wheel with dots between them, where they are not
-those of this machine; and `notes`, a folder whose files go beside the wheel's metadata. With the environment's SOURCE_DATE_EPOCH, the time of
-all files in the wheel, the same files make the same bytes.
+packaging/build.sh passes two settings: `platform`, the platform tags of the wheel with dots between them, if they are not those of this machine;
+and `notes`, a folder whose files go beside the wheel's metadata. SOURCE_DATE_EPOCH in the environment is the time of all files in the wheel; with
+it, the same files give the same bytes.
 """
 
 import base64
@@ -34,12 +34,12 @@ def _library(native):
     """The file of the library."""
     (place,) = native._places()
     if not os.path.exists(place):
-        raise SystemExit(f"{place} is no file: build the library by capi/build.sh, or name its file in FEDDURZAI_LIBRARY")
+        raise SystemExit(f"{place} does not exist: build the library with capi/build.sh, or name its file in FEDDURZAI_LIBRARY")
     return place
 
 
 def _metadata(version):
-    return f"Metadata-Version: 2.1\nName: feddurzai\nVersion: {version}\nSummary: x86 instructions read, written, told and moved\nRequires-Python: >=3.8\n"
+    return f"Metadata-Version: 2.1\nName: feddurzai\nVersion: {version}\nSummary: Decodes, encodes, prints, analyses and relocates x86 machine code\nRequires-Python: >=3.8\n"
 
 
 def _put(archive, name, content):
@@ -53,7 +53,7 @@ def _put(archive, name, content):
 
 
 def _wheel(directory, files, tag):
-    """Writes a wheel of some files by their names in it, and tells its name."""
+    """Writes a wheel of some files by their names in it, and returns its name."""
     feddurzai, _ = _package()
     version = ".".join(map(str, feddurzai.version()))
     info = f"feddurzai-{version}.dist-info"
