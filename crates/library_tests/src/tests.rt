@@ -173,6 +173,9 @@ fn hook_of_code(alloc: Global) -> Result<(u64, Vec<u8>), Fail> {
     Ok((place, hooks.image().to_vec(alloc)?))
 }
 
+/// The first two instructions of the code at 2000, and the jump back from 200A to 1005.
+const TRAMPOLINE: &[u8] = b"\x31\xc0\x83\xf8\x05\xe9\xfb\xef\xff\xff";
+
 // A hook takes the first two instructions of the code.
 #[test]
 fn hooks_are_made(rt: HostRuntime) -> Result<(), Fail> {
@@ -181,7 +184,8 @@ fn hooks_are_made(rt: HostRuntime) -> Result<(), Fail> {
     same(&rt, "the detour", &found, &(JumpForm::Near, 5));
     let (place, image) = hook_of_code(rt.alloc())?;
     same(&rt, "the place", &place, &0x2000);
-    let starts = image.starts_with(made.trampoline());
-    same(&rt, "the trampoline", &starts, &true);
+    same_items(&rt, "the trampoline", made.trampoline(), TRAMPOLINE);
+    let found = image.get(..TRAMPOLINE.len());
+    same(&rt, "the range", &found, &Some(TRAMPOLINE));
     Ok(())
 }

@@ -2,15 +2,30 @@ use crate::whole_runs::compare::same;
 use crate::whole_runs::ports::status_of;
 use byte_ports::{CountSink, MemSink, MemSource};
 use listing_run::{Status, status_number};
+use std::alloc::{AllocError, Global};
 use std::str::from_utf8;
 use std::test::Fail;
 
-/// One byte past the limit: of 16,777,216 times `nop` all have a line but the last 14, 52 bytes each. The sum of these bytes is from a script that makes
-/// the lines.
+/// NOP behind fourteen prefixes: as long as an instruction can be, so that few lines come of many bytes.
+const LONG: &[u8] = &[
+    0x66, 0x66, 0x66, 0x66, 0x66, 0x66, 0x66, 0x66, 0x66, 0x66, 0x66, 0x66, 0x66, 0x66, 0x90,
+];
+
+/// One byte past the limit: 1,118,479 instructions of 15 bytes and 32 of one byte.
+fn code_past_the_limit(alloc: Global) -> Result<Vec<u8>, AllocError> {
+    let mut code = Vec::with_capacity(alloc, 16_777_217)?;
+    for _ in 0..1_118_479 {
+        code.extend_from_slice(LONG)?;
+    }
+    code.extend_from_slice(&[0x90; 32])?;
+    Ok(code)
+}
+
+/// All instructions have a line but the last 15, behind whose starts there are fewer than 15 bytes up to the limit: 1,118,496 lines of 52 bytes each. The
+/// sum of these bytes is from a script that makes the lines.
 #[test]
 fn a_byte_past_the_limit_is_told(rt: HostRuntime) -> Result<(), Fail> {
-    let mut code = Vec::new(rt.alloc());
-    code.resize(16_777_217, 0x90)?;
+    let code = code_past_the_limit(rt.alloc())?;
     let mut source = MemSource::new(&code);
     let mut out = CountSink::new();
     let mut err = MemSink::new(rt.alloc(), 80)?;
@@ -22,8 +37,8 @@ fn a_byte_past_the_limit_is_told(rt: HostRuntime) -> Result<(), Fail> {
     let want = (
         limit,
         6,
-        872_414_504,
-        38_734_362_843,
+        58_161_792,
+        3_271_312_970,
         "input over 16777216 bytes\n",
     );
     same(&rt, &found, &want);
