@@ -15,7 +15,7 @@ use feddurzai::region::{NotTaken, Region};
 use feddurzai::rows::code_of;
 use feddurzai::slots::StepSlots;
 use feddurzai::streams::{MemSink, MemSource, info_stream};
-use feddurzai::values::{Bits, Instr};
+use feddurzai::values::{Bits, Code, Instr};
 use std::alloc::Global;
 use std::fmt::Debug;
 use std::process::Abort;
@@ -30,6 +30,9 @@ fn same<T: PartialEq + Debug>(rt: &impl Abort, of: &str, found: &T, want: &T) {
 fn same_items<T: PartialEq + Debug>(rt: &impl Abort, of: &str, found: &[T], want: &[T]) {
     assert_eq!(rt; found, want, "{of}");
 }
+
+/// The row `o64 75 cb` of `jne` by its code.
+const JNE: Code = Code(169);
 
 /// `jne` over 16 bytes.
 const BRANCH: &[u8] = &[0x75, 0x10];
@@ -82,7 +85,8 @@ fn info_line(alloc: Global, bytes: &[u8]) -> Result<Vec<u8>, Fail> {
 #[test]
 fn an_instruction_is_read_told_and_written(rt: HostRuntime) -> Result<(), Fail> {
     let instr = read(BRANCH)?;
-    same(&rt, "the row", &Some(instr.code), &code_of("jne", 2));
+    same(&rt, "the row", &instr.code, &JNE);
+    same(&rt, "the row of the name", &code_of("jne", 2), &Some(JNE));
     same(&rt, "the flow", &flow(BRANCH)?, &Flow::ConditionalBranch);
     is_shown(&rt, rt.alloc(), BRANCH, "jne 0x1012")?;
     is_written(&rt, &instr, BRANCH)?;
