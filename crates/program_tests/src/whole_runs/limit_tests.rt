@@ -6,23 +6,23 @@ use std::alloc::{AllocError, Global};
 use std::str::from_utf8;
 use std::test::Fail;
 
-/// NOP behind fourteen prefixes: as long as an instruction can be, so that few lines come of many bytes.
+/// `mov qword [rsp+0x100], 0x5`. It has 12 bytes, so that few lines come of many bytes.
 const LONG: &[u8] = &[
-    0x66, 0x66, 0x66, 0x66, 0x66, 0x66, 0x66, 0x66, 0x66, 0x66, 0x66, 0x66, 0x66, 0x66, 0x90,
+    0x48, 0xc7, 0x84, 0x24, 0x00, 0x01, 0x00, 0x00, 0x05, 0x00, 0x00, 0x00,
 ];
 
-/// One byte past the limit: 1,118,479 instructions of 15 bytes and 32 of one byte.
+/// One byte past the limit: 1,398,099 instructions of 12 bytes, and 29 times `nop`.
 fn code_past_the_limit(alloc: Global) -> Result<Vec<u8>, AllocError> {
     let mut code = Vec::with_capacity(alloc, 16_777_217)?;
-    for _ in 0..1_118_479 {
+    for _ in 0..1_398_099 {
         code.extend_from_slice(LONG)?;
     }
-    code.extend_from_slice(&[0x90; 32])?;
+    code.extend_from_slice(&[0x90; 29])?;
     Ok(code)
 }
 
-/// All instructions have a line but the last 15, behind whose starts there are fewer than 15 bytes up to the limit: 1,118,496 lines of 52 bytes each. The
-/// sum of these bytes is from a script that makes the lines.
+/// Each instruction has a line if 15 bytes from its start on stand before the limit: all but the last 15, which are `nop`. The number of bytes in these
+/// lines and their sum are from a script that makes the lines.
 #[test]
 fn a_byte_past_the_limit_is_told(rt: HostRuntime) -> Result<(), Fail> {
     let code = code_past_the_limit(rt.alloc())?;
@@ -37,8 +37,8 @@ fn a_byte_past_the_limit_is_told(rt: HostRuntime) -> Result<(), Fail> {
     let want = (
         limit,
         6,
-        58_161_792,
-        3_271_312_970,
+        104_858_153,
+        6_352_122_111,
         "input over 16777216 bytes\n",
     );
     same(&rt, &found, &want);

@@ -64,7 +64,7 @@ struct FewSource<'a> {
 impl<'a> Source for FewSource<'a> {
     ghost left = { λ _. None };
 
-    ghost faults = { λ s. ⟦<MemSource as Source>⟧.faults s.inner };
+    ghost faults = { λ s. ⟦<MemSource<'a> as Source>⟧.faults s.inner };
 
     fn pull(&mut self, into: &mut [u8]) -> Result<usize, Failed> {
         let count = into.len().min(self.most);
