@@ -123,7 +123,7 @@ fn with_two_blocks(alloc: Global) -> Result<(Region, Answer, Answer, Answer), Op
     Ok((region, empty, first, second))
 }
 
-/// So many bytes of a region at 0: this byte from one address to before another, and CC elsewhere.
+/// The bytes of a region of this size at 0 that has one byte from an address to before another, and CC elsewhere.
 fn filled(
     alloc: Global,
     size: usize,

@@ -90,8 +90,8 @@ fn chain(alloc: Global) -> Result<Vec<u8>, AllocError> {
     Ok(code)
 }
 
-/// The same at 5000 in place of 1000. All targets of the 48 stand in front of the chain, and each distance from the end of a branch to its target is 3
-/// bytes less than the one before: the first is -4083, from 5005 to F82.
+/// The chain moved from 1000 to 5000. The 48 branches go to addresses before 1000, which stay. The distance from the end of the first to its target is
+/// -4083, from 5005 to F82, and that of each other is 3 less than the one before.
 fn moved_chain(alloc: Global) -> Result<Vec<u8>, AllocError> {
     let mut code = Vec::new(alloc);
     let mut distance = -0x4083i32;

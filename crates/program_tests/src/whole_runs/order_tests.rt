@@ -51,7 +51,7 @@ const RUNS: &[(&[&str], u64, u64, Status, usize)] = &[
     (RECODE, 34, 19, Status::WriteFault, 18),
 ];
 
-/// What a line has behind the address of the item at an offset of [`CODE`]. Only a listing goes on behind `push es`.
+/// What follows the address in the line of the item at an offset of [`CODE`]. Only a listing goes on after `push es`.
 fn text_of(command: &str, at: usize) -> &'static str {
     match command {
         "info" => " Next\n",
