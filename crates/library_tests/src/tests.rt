@@ -15,7 +15,7 @@ use feddurzai::region::{NotTaken, Region};
 use feddurzai::rows::code_of;
 use feddurzai::slots::StepSlots;
 use feddurzai::streams::{MemSink, MemSource, info_stream};
-use feddurzai::values::{Bits, Instr};
+use feddurzai::values::{Bits, Code, Instr};
 use std::alloc::Global;
 use std::fmt::Debug;
 use std::process::Abort;
@@ -30,6 +30,9 @@ fn same<T: PartialEq + Debug>(rt: &impl Abort, of: &str, found: &T, want: &T) {
 fn same_items<T: PartialEq + Debug>(rt: &impl Abort, of: &str, found: &[T], want: &[T]) {
     assert_eq!(rt; found, want, "{of}");
 }
+
+/// The row `o64 75 cb` of `jne` by its code.
+const JNE: Code = Code(169);
 
 /// `jne` over 16 bytes.
 const BRANCH: &[u8] = &[0x75, 0x10];
@@ -82,7 +85,8 @@ fn info_line(alloc: Global, bytes: &[u8]) -> Result<Vec<u8>, Fail> {
 #[test]
 fn an_instruction_is_read_told_and_written(rt: HostRuntime) -> Result<(), Fail> {
     let instr = read(BRANCH)?;
-    same(&rt, "the row", &Some(instr.code), &code_of("jne", 2));
+    same(&rt, "the row", &instr.code, &JNE);
+    same(&rt, "the row of the name", &code_of("jne", 2), &Some(JNE));
     same(&rt, "the flow", &flow(BRANCH)?, &Flow::ConditionalBranch);
     is_shown(&rt, rt.alloc(), BRANCH, "jne 0x1012")?;
     is_written(&rt, &instr, BRANCH)?;
@@ -173,6 +177,9 @@ fn hook_of_code(alloc: Global) -> Result<(u64, Vec<u8>), Fail> {
     Ok((place, hooks.image().to_vec(alloc)?))
 }
 
+/// The first two instructions of the code at 2000, and the jump back from 200A to 1005.
+const TRAMPOLINE: &[u8] = b"\x31\xc0\x83\xf8\x05\xe9\xfb\xef\xff\xff";
+
 // A hook takes the first two instructions of the code.
 #[test]
 fn hooks_are_made(rt: HostRuntime) -> Result<(), Fail> {
@@ -181,7 +188,8 @@ fn hooks_are_made(rt: HostRuntime) -> Result<(), Fail> {
     same(&rt, "the detour", &found, &(JumpForm::Near, 5));
     let (place, image) = hook_of_code(rt.alloc())?;
     same(&rt, "the place", &place, &0x2000);
-    let starts = image.starts_with(made.trampoline());
-    same(&rt, "the trampoline", &starts, &true);
+    same_items(&rt, "the trampoline", made.trampoline(), TRAMPOLINE);
+    let found = image.get(..TRAMPOLINE.len());
+    same(&rt, "the range", &found, &Some(TRAMPOLINE));
     Ok(())
 }

@@ -6,7 +6,7 @@ use feddurzai::hooks::{
     StartTarget, replay,
 };
 use feddurzai::values::Bits;
-use std::alloc::Global;
+use std::alloc::{AllocError, Global};
 use std::process::Abort;
 use std::test::Fail;
 
@@ -31,28 +31,16 @@ fn install(
     Ok(hooks.install(alloc, function.ip, &code, function.to, StartTarget::Moved))
 }
 
-/// Puts a trampoline, as hexadecimal digits, behind others, and CC up to the end of its slot; answers whether it has room there.
-fn fill_slot(alloc: Global, image: &mut Vec<u8>, slot: usize, digits: &str) -> Result<bool, Fail> {
-    let bytes = hex::decode(alloc, digits)?;
-    if bytes.len() > slot {
-        return Ok(false);
-    }
-    image.extend_from_slice(&bytes)?;
-    for _ in bytes.len()..slot {
-        image.push(0xCC)?;
-    }
-    Ok(true)
-}
-
-/// Whether a range has these trampolines in its slots, as hexadecimal digits, and CC elsewhere.
-fn holds(alloc: Global, hooks: &Hooks, slot: u64, trampolines: &[&str]) -> Result<bool, Fail> {
-    let mut image = Vec::new(alloc);
-    for digits in trampolines {
-        if !fill_slot(alloc, &mut image, slot as usize, digits)? {
-            return Ok(false);
+/// The hexadecimal digits of a range with these trampolines in its slots, and CC elsewhere.
+fn range_digits(alloc: Global, slot: u64, trampolines: &[&str]) -> Result<String, AllocError> {
+    let mut digits = String::new(alloc);
+    for trampoline in trampolines {
+        digits.push_str(trampoline)?;
+        for _ in trampoline.len() / 2..slot as usize {
+            digits.push_str("cc")?;
         }
     }
-    Ok(hooks.image() == image.as_slice())
+    Ok(digits)
 }
 
 /// That a range has these trampolines in its slots, as hexadecimal digits, and CC elsewhere.
@@ -63,9 +51,8 @@ fn has_slots(
     slot: u64,
     trampolines: &[&str],
 ) -> Result<(), Fail> {
-    let held = holds(alloc, hooks, slot, trampolines)?;
-    same(rt, "the range", &held, &true);
-    Ok(())
+    let digits = range_digits(alloc, slot, trampolines)?;
+    are_bytes(rt, alloc, "the range", hooks.image(), &digits)
 }
 
 /// A function that is hooked, and what is wanted of it: the place of its trampoline, what goes over it, and the trampoline.
@@ -209,9 +196,8 @@ fn both_installed(
 /// That what was taken of a function are its first bytes, as many as its patch has.
 fn is_taken(rt: &impl Abort, alloc: Global, taken: &[u8], wanted: &Hooked) -> Result<(), Fail> {
     let digits = hex::encode(alloc, taken)?;
-    same(rt, "how much", &digits.as_str().len(), &wanted.patch.len());
-    let starts = wanted.function.code.starts_with(digits.as_str());
-    same(rt, "its first bytes", &starts, &true);
+    let want = wanted.function.code.get(..wanted.patch.len());
+    same(rt, "its first bytes", &Some(digits.as_str()), &want);
     Ok(())
 }
 
@@ -240,17 +226,19 @@ fn no_slot_is_free(
     Ok(())
 }
 
-/// The address of a hook that is removed, and whether it has as many bytes as were taken of its function.
-fn removed(hooks: &mut Hooks, place: u64) -> Result<(u64, bool), NotTaken> {
+/// The address of a hook that is removed, how many bytes it has of its function, and how many its detour takes.
+fn removed(hooks: &mut Hooks, place: u64) -> Result<(u64, usize, usize), NotTaken> {
     let gone = hooks.remove(place)?;
-    Ok((gone.ip, gone.original.len() == gone.detour.taken()))
+    Ok((gone.ip, gone.original.len(), gone.detour.taken()))
 }
 
 /// The first of two hooks is removed once, and its slot is CC again, and the first to be free.
 fn is_removed(rt: &impl Abort, alloc: Global, hooks: &mut Hooks, case: &Case) -> Result<(), Fail> {
     let place = case.one.place;
     let gone = removed(hooks, place);
-    same(rt, "the hook", &gone, &Ok((case.one.function.ip, true)));
+    let taken = case.one.patch.len() / 2;
+    let want = Ok((case.one.function.ip, taken, taken));
+    same(rt, "the hook", &gone, &want);
     has_slots(rt, alloc, hooks, case.slot, &["", case.two.trampoline])?;
     same(rt, "live hooks", &hooks.live().len(), &1);
     let gone = removed(hooks, place);

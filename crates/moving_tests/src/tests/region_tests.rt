@@ -123,21 +123,19 @@ fn with_two_blocks(alloc: Global) -> Result<(Region, Answer, Answer, Answer), Op
     Ok((region, empty, first, second))
 }
 
-/// Whether bytes are this one from one offset to before another, and CC elsewhere.
-fn are_filled(image: &[u8], byte: u8, from: usize, to: usize) -> bool {
-    for (i, found) in image.iter().enumerate() {
-        let want = if from <= i && i < to { byte } else { 0xCC };
-        if *found != want {
-            return false;
-        }
+/// The bytes of a region of this size at 0 that has one byte from an address to before another, and CC elsewhere.
+fn filled(
+    alloc: Global,
+    size: usize,
+    byte: u8,
+    from: usize,
+    to: usize,
+) -> Result<Vec<u8>, AllocError> {
+    let mut bytes = Vec::new(alloc);
+    for at in 0..size {
+        bytes.push(if from <= at && at < to { byte } else { 0xCC })?;
     }
-    true
-}
-
-/// That a region has this byte from one address to before another, and CC elsewhere.
-fn has_bytes(rt: &impl Abort, region: &Region, byte: u8, from: usize, to: usize) {
-    let found = are_filled(region.image(), byte, from, to);
-    same(rt, "the bytes", &found, &true);
+    Ok(bytes)
 }
 
 #[test]
@@ -148,7 +146,8 @@ fn bytes_outside_content_are_int3(rt: HostRuntime) -> Result<(), Fail> {
     same(&rt, "the places", &found, &(refused, Ok(0), Ok(0x10)));
     let many = PlaceError::TooManyBlocks { max: 2 };
     places(&rt, &mut region, 1, Err(many));
-    has_bytes(&rt, &region, 0x90, 0x10, 0x11);
+    let want = filled(rt.alloc(), 64, 0x90, 0x10, 0x11)?;
+    same_items(&rt, "the bytes", region.image(), &want);
     releases(&rt, &mut region, 0x10, Ok(()));
     same_items(&rt, "the bytes", region.image(), &[0xCC; 64]);
     Ok(())
@@ -252,6 +251,7 @@ fn commands_are_replayed_on_a_region(rt: HostRuntime) -> Result<(), Fail> {
     let commands = commands(rt.alloc())?;
     let (region, replies) = replayed(rt.alloc(), &commands)?;
     are_replies(&rt, &replies);
-    has_bytes(&rt, &region, 0x90, 0x10, 0x13);
+    let want = filled(rt.alloc(), 128, 0x90, 0x10, 0x13)?;
+    same_items(&rt, "the bytes", region.image(), &want);
     Ok(())
 }

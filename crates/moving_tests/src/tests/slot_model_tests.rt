@@ -4,7 +4,7 @@ ghost use Rattle.std.specs.Prelude.{◌≡◌, IfOk};
 ghost use Rattle.x86_values.specs.declared.Bits.{Bits};
 ghost use Rattle.move_goals.specs.Items.{IsPlaced};
 
-use crate::tests::compare::same;
+use crate::tests::compare::{same, same_items};
 use crate::tests::items::placed_at;
 use crate::tests::slot_tests::{finish, slots_of, step};
 use std::alloc::{AllocError, Global};
@@ -232,7 +232,7 @@ fn is_done(
 /// The range has the bytes of the live slots of the list.
 fn has_slots(rt: &impl Abort, alloc: Global, slots: &StepSlots, live: &[Live]) -> Result<(), Fail> {
     let image = image_of(alloc, live)?;
-    same(rt, "the bytes", &(slots.image() == image.as_slice()), &true);
+    same_items(rt, "the bytes", slots.image(), &image);
     same(rt, "live slots", &slots.live().len(), &live.len());
     Ok(())
 }

@@ -2,7 +2,7 @@
 
 use crate::tests::outcomes::all_write_bytes;
 use crate::tests::runs::run_command;
-use std::alloc::Global;
+use std::alloc::{AllocError, Global};
 use std::process::Abort;
 use std::test::Fail;
 
@@ -80,25 +80,36 @@ fn long_code_has_its_bytes(rt: HostRuntime) -> Result<(), Fail> {
     Ok(())
 }
 
+/// 48 branches 126 bytes back from their starts, and one behind them to the NOP before it.
+fn chain(alloc: Global) -> Result<Vec<u8>, AllocError> {
+    let mut code = Vec::new(alloc);
+    for _ in 0..48 {
+        code.extend_from_slice(&[0xeb, 0x80])?;
+    }
+    code.extend_from_slice(&[0x90, 0xeb, 0xfd])?;
+    Ok(code)
+}
+
+/// The chain moved from 1000 to 5000. The 48 branches go to addresses before 1000, which stay. The distance from the end of the first to its target is
+/// -4083, from 5005 to F82, and that of each other is 3 less than the one before.
+fn moved_chain(alloc: Global) -> Result<Vec<u8>, AllocError> {
+    let mut code = Vec::new(alloc);
+    let mut distance = -0x4083i32;
+    for _ in 0..48 {
+        code.push(0xe9)?;
+        code.extend_from_slice(&distance.to_le_bytes())?;
+        distance = distance.wrapping_sub(3);
+    }
+    code.extend_from_slice(&[0x90, 0xeb, 0xfd])?;
+    Ok(code)
+}
+
 // 48 branches that grow, and one behind them that does not.
 #[test]
 fn a_chain_of_branches_grows(rt: HostRuntime) -> Result<(), Fail> {
-    let mut chain = Vec::new(rt.alloc());
-    for _ in 0..48 {
-        chain.extend_from_slice(&[0xeb, 0x80])?;
-    }
-    chain.extend_from_slice(&[0x90, 0xeb, 0xfd])?;
-    let ran = run_command(rt.alloc(), "move 64 1000 5000", &chain)?;
-    let end = ran
-        .out
-        .len()
-        .checked_sub(3)
-        .and_then(|from| ran.out.get(from..));
-    assert_eq!(rt;
-        (ran.number, ran.out.len(), end),
-        (0, 243, Some([0x90, 0xeb, 0xfd].as_slice()))
-    );
-    Ok(())
+    let input = chain(rt.alloc())?;
+    let moved = moved_chain(rt.alloc())?;
+    moves_to(&rt, rt.alloc(), "move 64 1000 5000", &input, &moved)
 }
 
 /// Commands, code, and the bytes of its slots.

@@ -217,21 +217,41 @@ fn long_inputs_have_their_lines(rt: HostRuntime) -> Result<(), Fail> {
     Ok(())
 }
 
+/// That the listing of the table begins with these lines.
+fn begins_with(rt: &impl Abort, text: &str, lines: &str) {
+    assert_eq!(rt; text.get(..lines.len()), Some(lines));
+}
+
+/// That the listing of the table has this line for the row of this number.
+fn has_line(rt: &impl Abort, text: &str, number: usize, line: &str) {
+    assert_eq!(rt; text.lines().nth(number), Some(line));
+}
+
+/// The lines of the first rows.
+const FIRST_ROWS: &str = "0 00 /r add
+1 o16 01 /r add
+2 o32 01 /r add
+3 REX.W + 01 /r add
+4 02 /r add
+";
+
+/// Other rows, each with its number.
+const ROW_LINES: &[(usize, &str)] = &[
+    (120, "120 o64 50+ro push"),
+    (210, "210 REX.W + 81 /0 id add"),
+    (290, "290 NF3 90 nop"),
+    (1610, "1610 VEX.128.0F.WIG 77 vzeroupper"),
+    (1913, "1913 VEX.256.66.0F3A.W1 00 /r ib vpermq"),
+];
+
 #[test]
 fn the_table_has_a_line_for_each_row(rt: HostRuntime) -> Result<(), Fail> {
     let ran = run_command(rt.alloc(), "rows", &[0x90])?;
     let text = from_utf8(&ran.out)?;
-    let first = "0 00 /r add\n1 o16 01 /r add\n2 o32 01 /r add\n3 REX.W + 01 /r add\n4 02 /r add\n";
-    assert!(rt; text.starts_with(first));
     assert_eq!(rt; (ran.number, text.lines().count()), (0, 2083));
-    for notation in [
-        " NF3 90 ",
-        " o64 50+ro ",
-        " VEX.128.0F.WIG 77 ",
-        " VEX.256.66.0F3A.W1 00 /r ib ",
-        " REX.W + 81 /0 id ",
-    ] {
-        assert!(rt; text.contains(notation), "{notation}");
+    begins_with(&rt, text, FIRST_ROWS);
+    for (number, line) in ROW_LINES {
+        has_line(&rt, text, *number, line);
     }
     Ok(())
 }

@@ -54,6 +54,24 @@ impl Sink for ShortSink {
     }
 }
 
+/// A source that gives at most `most` bytes in each call. It tells no bytes to proofs.
+#[derive(Drop)]
+struct FewSource<'a> {
+    inner: MemSource<'a>,
+    most: usize,
+}
+
+impl<'a> Source for FewSource<'a> {
+    ghost left = { λ _. None };
+
+    ghost faults = { λ s. ⟦<MemSource<'a> as Source>⟧.faults s.inner };
+
+    fn pull(&mut self, into: &mut [u8]) -> Result<usize, Failed> {
+        let count = into.len().min(self.most);
+        self.inner.pull(&mut into[..count])
+    }
+}
+
 /// Carries out the words of a command line. It stands between `run` and the tests, so that their proofs do not carry along what `run` promises.
 pub(crate) fn status_of<S: Source, K: Sink, E: Sink>(
     alloc: Global,
@@ -93,6 +111,21 @@ pub(crate) fn run_slowly(
     let mut err = MemSink::new(alloc, 80)?;
     let status = status_of(alloc, words, &mut source, &mut out, &mut err);
     held(alloc, status, out.inner().bytes(), err.bytes())
+}
+
+/// A command over code of which at most so many bytes, and at least one, are given in each call.
+pub(crate) fn run_by_few(
+    alloc: Global,
+    words: &[&str],
+    code: &[u8],
+    most: usize,
+) -> Result<Held, Fail> {
+    let inner = MemSource::new(code);
+    let mut source = FewSource { inner, most };
+    let mut out = MemSink::new(alloc, 512)?;
+    let mut err = MemSink::new(alloc, 80)?;
+    let status = status_of(alloc, words, &mut source, &mut out, &mut err);
+    held(alloc, status, out.bytes(), err.bytes())
 }
 
 /// A command over code that is given at once, with an output that fails at a call.

@@ -1,5 +1,7 @@
 use crate::whole_runs::compare::same;
-use crate::whole_runs::ports::{FUNCTION, LISTING, run_at_once, run_in_pieces, run_slowly};
+use crate::whole_runs::ports::{
+    FUNCTION, LISTING, run_at_once, run_by_few, run_in_pieces, run_slowly,
+};
 use listing_run::{Status, status_number};
 use std::process::Abort;
 use std::str::from_utf8;
@@ -83,6 +85,17 @@ fn a_sink_that_takes_a_few_bytes_holds_the_pieces_before(rt: HostRuntime) -> Res
     for (call, status, len) in IN_PIECES {
         let (answer, out, _) = run_in_pieces(rt.alloc(), LIST, FUNCTION, *call)?;
         leaves(&rt, *call, (answer, &out), *status, *len);
+    }
+    Ok(())
+}
+
+// However many bytes a source gives in each call, its listing is the same.
+#[test]
+fn a_source_that_gives_a_few_bytes_has_its_listing(rt: HostRuntime) -> Result<(), Fail> {
+    for most in &[1, 2, 3, 4, 5, 6] {
+        let (status, out, err) = run_by_few(rt.alloc(), LIST, FUNCTION, *most)?;
+        let found = (most, status, from_utf8(&out)?, from_utf8(&err)?);
+        same(&rt, &found, &(most, DONE, LISTING, ""));
     }
     Ok(())
 }

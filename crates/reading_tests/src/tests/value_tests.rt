@@ -6,19 +6,22 @@ use x86_values::{
     same_register, wrap,
 };
 
+/// The memory at RSP plus 16.
+const AT_RSP_16: Mem = Mem {
+    base: Some(Register::RSP),
+    index: None,
+    scale: 1,
+    disp: 16,
+    disp_size: DispSize::D8,
+};
+
 /// `mov` of a register and the memory at RSP plus 16, at some place of the table.
 fn load(register: Register) -> Instr {
     Instr {
         code: Code(7),
         ops: [
             Operand::Reg(register),
-            Operand::Mem(Mem {
-                base: Some(Register::RSP),
-                index: None,
-                scale: 1,
-                disp: 16,
-                disp_size: DispSize::D8,
-            }),
+            Operand::Mem(AT_RSP_16),
             Operand::Absent,
             Operand::Absent,
         ],
@@ -41,8 +44,9 @@ fn equal_values_alone_are_the_same(rt: HostRuntime) {
     }
     let instr = load(rbx);
     same_value(&rt, &instr.op_count(), &2, "how many operands");
-    let memory = instr.ops[1].memory();
-    same_value(&rt, &instr.memory_operand(), &memory, "the memory operand");
+    let memory = &Some(AT_RSP_16);
+    same_value(&rt, &instr.ops[1].memory(), memory, "operand 1");
+    same_value(&rt, &instr.memory_operand(), memory, "the memory operand");
     same_value(&rt, &instr.ops[1].is_memory(), &true, "memory");
     same_value(&rt, &instr.ops[3].is_absent(), &true, "no operand");
 }

@@ -52,12 +52,6 @@ fn reg(register: Register) -> OperandText {
 
 const NONE: OperandText = OperandText::Absent;
 
-/// That a text is read as the name that it begins with and these operands.
-fn reads(rt: &impl Abort, text: &str, ops: [OperandText; 4]) {
-    let (name, _) = text.split_once(' ').unwrap_or((text, ""));
-    says(rt, text, name, plain(ops));
-}
-
 /// That a text is read as this name and these words.
 fn says(rt: &impl Abort, text: &str, name: &str, words: IntelWords) {
     let want = NamedWords {
@@ -95,41 +89,53 @@ fn operands_are_read(rt: HostRuntime) {
     let at_esp = address(SizeName::Far32, None, of_esp);
     let (five, thirty_two) = (OperandText::Number(5), OperandText::Number(0x20));
     let cases = [
-        ("nop", [NONE, NONE, NONE, NONE]),
-        ("push rbp", [reg(Register::RBP), NONE, NONE, NONE]),
+        ("nop", "nop", [NONE, NONE, NONE, NONE]),
+        ("push rbp", "push", [reg(Register::RBP), NONE, NONE, NONE]),
         (
             "mov ah, r13b",
+            "mov",
             [reg(Register::AH), reg(Register::R13B), NONE, NONE],
         ),
         (
             "sub rsp, 0x20",
+            "sub",
             [reg(Register::RSP), thirty_two, NONE, NONE],
         ),
-        ("callf 0x8:0x10", [far, NONE, NONE, NONE]),
+        ("callf 0x8:0x10", "callf", [far, NONE, NONE, NONE]),
         (
             "mov eax, dword fs:[rax+rbx*4-0x8]",
+            "mov",
             [reg(Register::EAX), at_fs, NONE, NONE],
         ),
         (
             "lea rcx, [rel 0x1007]",
+            "lea",
             [reg(Register::RCX), at_rip, NONE, NONE],
         ),
-        ("mov word [rel32 0x1007], 0x5", [at_eip, five, NONE, NONE]),
+        (
+            "mov word [rel32 0x1007], 0x5",
+            "mov",
+            [at_eip, five, NONE, NONE],
+        ),
         (
             "mov al, byte [0xffffffff00000000]",
+            "mov",
             [reg(Register::AL), at_lone, NONE, NONE],
         ),
         (
             "mov byte [bx+si+0x10], dil",
+            "mov",
             [at_bx, reg(Register::DIL), NONE, NONE],
         ),
         (
             "vgatherdps ymm1, dword [ymm2*8], ymm3",
+            "vgatherdps",
             [reg(Register::YMM1), at_ymm, reg(Register::YMM3), NONE],
         ),
-        ("jmpf far32 [esp]", [at_esp, NONE, NONE, NONE]),
+        ("jmpf far32 [esp]", "jmpf", [at_esp, NONE, NONE, NONE]),
         (
             "vblendvps xmm0, xmm15, xmm2, xmm10",
+            "vblendvps",
             [
                 reg(Register::XMM0),
                 reg(Register::XMM15),
@@ -138,8 +144,8 @@ fn operands_are_read(rt: HostRuntime) {
             ],
         ),
     ];
-    for (text, ops) in &cases {
-        reads(&rt, text, *ops);
+    for (text, name, ops) in &cases {
+        says(&rt, text, name, plain(*ops));
     }
 }
 
