@@ -123,8 +123,8 @@ pub mod region {
 pub mod slots {
     pub use crate::stepping::{StepCodeError, step_code};
     pub use step_slots::{
-        StandError, StepCommand, StepError, StepReply, StepSlot, StepSlots, laws, replay, step_at,
-        step_len,
+        StandError, StepCommand, StepError, StepReply, StepSlot, StepSlots, done_len, laws, replay,
+        step_at, step_len,
     };
 }
 

@@ -1,16 +1,21 @@
 //! The block of an instruction at a place that the caller chooses.
 
-ghost use Rattle.std.specs.Prelude.{◌≡◌, ◌<◌, ◌≤◌, length, IfOk};
-ghost use Rattle.move_goals.specs.Items.{IsPlaced};
+ghost use Rattle.std.specs.Prelude.{◌≡◌, ◌<◌, ◌≤◌, ℕ, length, slice_index_or, IfOk, Ok};
+ghost use Rattle.move_goals.specs.BranchForms.Images.{instrs_of};
+ghost use Rattle.move_goals.specs.Items.{IsPlaced, no_instr};
 ghost use Rattle.step_slots.specs.Block.{reserved_room};
+ghost use Rattle.step_slots.specs.Done.{IsDoneAt, done_length, step_form};
 ghost use Rattle.step_slots.specs.Standing.{IsStood, FitsReserved};
 
 use crate::block::step_items;
 use crate::laws_below::laws_below;
 use block_encoder::{MoveError, Moved, Placed, last_len, move_outside};
+use branch_sizes::Form;
+use move_goals::branch_forms::{Image, image_of};
+use move_goals::moved_targets::plain_length;
 use std::alloc::Global;
 use thiserror::Error;
-use x86_values::Bits;
+use x86_values::{Bits, Instr};
 
 /// Why an instruction has no block at a place.
 #[derive(Clone, Copy, PartialEq, Eq, Debug, Error)]
@@ -24,6 +29,17 @@ pub enum StandError {
     /// The instruction does not reach its target from the place, which is this address.
     #[error("cannot reach {target:#x}")]
     TooFar { target: u64 },
+}
+
+/// The first instruction of an image.
+fn first_instr(image: Image) -> Instr
+    ensures { result ≡ slice_index_or (instrs_of image) 0 no_instr }
+{
+    match image {
+        Image::One(first) => first,
+        Image::Two(first, _) => first,
+        Image::Three(first, _, _) => first,
+    }
 }
 
 /// The block of an instruction at a place: its moved image there, which keeps its target, and a jump back to the address behind the instruction where it
@@ -61,4 +77,22 @@ pub fn step_len(bits: Bits, item: Placed, base: u64) -> u64
     laws_below();
     let items = step_items(bits, item);
     last_len(bits, &items, base)
+}
+
+/// How many bytes of a block have run when its instruction has happened, up to the jumps that may follow: those of the first instruction of its image.
+///
+/// A branch that does not reach its target in one instruction has jumps behind it: a LOOP has counted before them. The instruction has not happened before
+/// this offset of the block, and from it on it has. `moved` is what [`step_at`] returned for `item`.
+pub fn done_len(bits: Bits, item: &Placed, moved: &Moved) -> u8
+    ensures value { result ≡ done_length bits item.now.instr (step_form moved.now) }
+    ensures done { (place : ℕ) → IsStood bits item.now place (Ok moved.now) → IsDoneAt bits item.now place moved.now result }
+{
+    move_goals::moved_targets::laws::spellings_are_moved();
+    move_goals::branch_forms::laws::pieces_have_their_lengths();
+    let form = match moved.forms().first() {
+        Some(form) => *form,
+        None => Form::Itself,
+    };
+    let first = first_instr(image_of(bits, &item.instr, form, 0, 0, 0));
+    plain_length(bits, &first)
 }
