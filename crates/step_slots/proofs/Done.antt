@@ -1,6 +1,6 @@
 -- A step block begins with the first instruction of the image, whose length does not depend on its place.
 use Rattle.std.proofs.Common.{◌≡◌, ℕ, ◌+◌, ◌≤◌, List, [], ◌∷◌, ◌++◌, length, get_or, take, Option, Some, None, Result, Ok, Err, refl, ap, sym, subst, ◌∙◌, append_assoc, length-append, arith}
-use Rattle.std.specs.Prelude.{IsSome}
+use Rattle.std.specs.Prelude.{IsSome, unwrap_or}
 use Rattle.std.proofs.Math.Seq.{take-append_seam}
 use Rattle.x86_values.specs.declared.Bits.{Bits}
 use Rattle.x86_values.specs.declared.Bits.TheVariants.{B64}
@@ -84,6 +84,15 @@ module _ (targets : TargetFacts) (pieces : PieceFacts) (bits : Bits) where
   unfolding image_of done_length
   image-first i form place goal slot = first-by i (branch_of i) form place goal slot
 
+-- the length of the first instruction of an image that stands anywhere
+pub done-is : (bits : Bits) (i : Instr) (wanted form : Form) → form ≡ wanted → (is : List Instr) → is ≡ image_of bits i form 0 0 0
+    → (first : Instr) → first ≡ get_or is 0 no_instr → (n : ℕ) → n ≡ plain_length bits first → n ≡ done_length bits i wanted
+unfolding done_length
+done-is bits i wanted form f is e first h n l =
+    l
+    ∙ (ap (plain_length bits) h
+    ∙ (ap (first_length bits) e ∙ ap (λ (g : Form). first_length bits (image_of bits i g 0 0 0)) f))
+
 -- ---- its bytes
 
 -- the encoding of the first of some instructions, in front of the bytes of the others
@@ -147,7 +156,7 @@ module _ (bits : Bits) (item : Placed) (place : ℕ) (m : MovedLists) (moved : I
         let spelled : image_bytes bits (step_items bits item) p moved.layout 0 ≡ Some (parts.bytes ++ parts.rest) =
         ap (bytes_from bits fragment.place) image ∙ parts.all in
         let whole : bytes_at bits (step_items bits item) p moved.layout 0 ≡ parts.bytes ++ parts.rest =
-        ap (λ (o : Option (List ℕ)). elim o as (λ (x : Option (List ℕ)). List ℕ) [ Some b ↦ b | None ↦ [] ]) spelled in
+        ap (λ (o : Option (List ℕ)). unwrap_or o []) spelled in
         let starts = image-front in
         let bytes : m.bytes ≡ parts.bytes ++ (parts.rest ++ starts.0) =
         starts.1 ∙ (ap (λ (b : List ℕ). b ++ starts.0) whole ∙ append_assoc parts.bytes parts.rest starts.0) in

@@ -79,6 +79,13 @@ pub fn step_len(bits: Bits, item: Placed, base: u64) -> u64
     last_len(bits, &items, base)
 }
 
+/// The form of the image of the instruction in its block.
+fn image_form(moved: &Moved) -> Form
+    ensures { result ≡ step_form moved.now }
+{
+    moved.forms().first().copied().unwrap_or(Form::Itself)
+}
+
 /// How many bytes of a block have run when its instruction has happened, up to the jumps that may follow: those of the first instruction of its image.
 ///
 /// A branch that does not reach its target in one instruction has jumps behind it: a LOOP has counted before them. The instruction has not happened before
@@ -89,10 +96,7 @@ pub fn done_len(bits: Bits, item: &Placed, moved: &Moved) -> u8
 {
     move_goals::moved_targets::laws::spellings_are_moved();
     move_goals::branch_forms::laws::pieces_have_their_lengths();
-    let form = match moved.forms().first() {
-        Some(form) => *form,
-        None => Form::Itself,
-    };
+    let form = image_form(moved);
     let first = first_instr(image_of(bits, &item.instr, form, 0, 0, 0));
     plain_length(bits, &first)
 }
