@@ -1,30 +1,32 @@
 -- A step block begins with the first instruction of the image, whose length does not depend on its place.
-use Rattle.std.proofs.Common.{◌≡◌, ℕ, ◌+◌, ◌≤◌, List, [], ◌∷◌, ◌++◌, length, get_or, take, Option, Some, None, Result, Ok, Err, refl, ap, sym, subst, ◌∙◌, append_assoc, length-append, arith}
+use Rattle.std.proofs.Common.{◌≡◌, ℕ, ◌+◌, ◌-◌, ◌≤◌, List, [], ◌∷◌, ◌++◌, length, get_or, take, Option, Some, None, Result, Ok, Err, refl, ap, sym, subst, ◌∙◌, append_assoc, length-append, arith}
 use Rattle.std.specs.Prelude.{IsSome, unwrap_or}
 use Rattle.std.proofs.Math.Seq.{take-append_seam}
+use Rattle.std.proofs.lemmas.List.{length-take}
 use Rattle.x86_values.specs.declared.Bits.{Bits}
-use Rattle.x86_values.specs.declared.Bits.TheVariants.{B64}
 use Rattle.x86_values.specs.declared.Instr.{Instr}
 use Rattle.plain_spelling.specs.declared.NoSpelling.{NoSpelling}
 use Rattle.encoder.specs.Encoding.{encoding}
 use Rattle.branch_sizes.specs.declared.plan.Form.{Form}
 use Rattle.branch_sizes.specs.declared.plan.Form.TheVariants.{Itself, Short, Near as NearForm, Far, Bridge, FarBridge}
-use Rattle.branch_sizes.specs.Layout.{item_choice, place as place_of}
+use Rattle.branch_sizes.specs.Layout.{total, item_choice, image_length}
 use Rattle.branch_sizes.specs.MoveLayout.Laid.{fragment_at}
 use Rattle.move_goals.specs.MovedTargets.Targets.{with_target, aimed_operand, aimed_base, plain_length}
 use Rattle.move_goals.specs.MovedTargets.Facts.{TargetFacts}
 use Rattle.move_goals.specs.declared.branch_forms.branch.Action.{Action}
 use Rattle.move_goals.specs.declared.branch_forms.branch.Action.TheVariants.{Jump, Call, Condition, Count}
 use Rattle.move_goals.specs.declared.branch_forms.branch.RelativeBranch.{RelativeBranch}
-use Rattle.move_goals.specs.BranchForms.Branches.{branch_of, near_code}
-use Rattle.move_goals.specs.BranchForms.Images.{through_slot, short_branch, branch_to, bridge_inner, bridge, far_image, branch_image, image_by, image_of}
+use Rattle.move_goals.specs.BranchForms.Branches.{branch_of}
+use Rattle.move_goals.specs.BranchForms.Images.{through_slot, short_branch, branch_to, bridge, far_image, branch_image, image_by, image_of}
 use Rattle.move_goals.specs.BranchForms.Facts.{PieceFacts}
 use Rattle.move_goals.specs.declared.items.Placed.{Placed}
-use Rattle.move_goals.specs.Items.{no_instr}
-use Rattle.move_goals.specs.Plan.{plan_with}
+use Rattle.move_goals.specs.Items.{AreSpansOf, no_instr, one_span}
+use Rattle.move_goals.specs.Plan.{kept_goals, plan_with}
 use Rattle.block_encoder.specs.Bytes.{in_front, bytes_from, image_at, image_bytes, bytes_at, block_images, block_bytes}
 use Rattle.block_encoder.specs.Moved.{MovedLists}
 use Rattle.block_encoder.specs.ByPlan.{IsMovedBy}
+use Rattle.block_encoder.specs.Aims.{StandsAtPlace}
+use Rattle.block_encoder.specs.Facts.{MovedFacts}
 use Rattle.step_slots.specs.Block.{step_items, step_plan}
 use Rattle.step_slots.specs.Done.{done_length, step_form, IsDoneAt}
 
@@ -123,6 +125,9 @@ parted bits at i is some = by_encoding (encoding bits at i) refl some
               ∙ ap (in_front bytes) f;
         }
 
+short : (n : ℕ) (xs ys : List ℕ) → take n ys ≡ xs → length xs ≤ n
+short n xs ys e = omega (arith, ap length e, length-take n ys)
+
 front : (a b c d : List ℕ) → ((a ++ b) ++ c) ++ d ≡ a ++ (b ++ (c ++ d))
 front a b c d = append_assoc (a ++ b) c d ∙ append_assoc a b (c ++ d)
 
@@ -140,7 +145,28 @@ module _ (bits : Bits) (item : Placed) (place : ℕ) (m : MovedLists) (moved : I
   unfolding fragment_at plan_with
   place-is = omega arith
 
-  module _ (targets : TargetFacts) (pieces : PieceFacts) where
+  -- the jump back is behind the image
+  back-is : get_or m.starts 1 0 ≡ place + image_length (step_plan bits item place) moved.layout 0
+  unfolding plan_with
+  back-is =
+      let lengths = image_length (step_plan bits item place) moved.layout in
+      let at : get_or m.starts 1 0 ≡ place + (total lengths 1 - total lengths 0) = ap (λ (xs : List ℕ). get_or xs 1 0) moved.lists.starts in
+      omega (arith, at)
+
+  spans-of : AreSpansOf (step_items bits item) (one_span (step_items bits item) place)
+  spans-of = record { few = omega arith; counts = refl }
+
+  -- the image is as long as its form says
+  image-short : MovedFacts → length (bytes_at bits (step_items bits item) (step_plan bits item place) moved.layout 0)
+      ≤ image_length (step_plan bits item place) moved.layout 0
+  image-short facts =
+      let items = step_items bits item in
+      let p = step_plan bits item place in
+      let stands : StandsAtPlace bits items p moved.layout 0 0 =
+      facts.places bits items (one_span items place) (kept_goals items) spans-of m moved 0 (omega arith) in
+      short (image_length p moved.layout 0) (bytes_at bits items p moved.layout 0) _ stands.bytes
+
+  module _ (targets : TargetFacts) (pieces : PieceFacts) (facts : MovedFacts) where
     pub done-at : IsDoneAt bits item place m (done_length bits item.instr (step_form m))
     unfolding fragment_at
     done-at =
@@ -168,6 +194,10 @@ module _ (bits : Bits) (item : Placed) (place : ℕ) (m : MovedLists) (moved : I
         ∙ (ap (take (length parts.bytes)) bytes ∙ take-append_seam parts.bytes (parts.rest ++ starts.0)) in
         let sum : length m.bytes ≡ length parts.bytes + length (parts.rest ++ starts.0) =
         ap length bytes ∙ length-append parts.bytes (parts.rest ++ starts.0) in
+        let whole_length : length (bytes_at bits (step_items bits item) p moved.layout 0) ≡ length parts.bytes + length parts.rest =
+        ap length whole ∙ length-append parts.bytes parts.rest in
+        let few = image-short facts in
+        let back = back-is in
         record {
           layout = moved.layout;
           least = moved.least;
@@ -175,6 +205,7 @@ module _ (bits : Bits) (item : Placed) (place : ℕ) (m : MovedLists) (moved : I
           jumps = jumps;
           image = image;
           within = omega (arith, sum, len);
+          before_back = omega (arith, whole_length, few, back, len);
           encoded =
               ap (λ (at : ℕ). encoding bits at first) (sym place-is)
               ∙ (parts.first ∙ ap (λ (b : List ℕ). Ok b) (sym cut));

@@ -1,5 +1,5 @@
 -- How far the code of a step runs until its instruction has happened.
-use Rattle.std.specs.Prelude.{◌≡◌, ℕ, ◌≤◌, List, ◌∷◌, length, take, slice_index_or, Ok}
+use Rattle.std.specs.Prelude.{◌≡◌, ℕ, ◌+◌, ◌≤◌, List, ◌∷◌, length, take, slice_index_or, Ok}
 use Rattle.x86_values.specs.declared.Bits.{Bits}
 use Rattle.x86_values.specs.declared.Instr.{Instr}
 use Rattle.encoder.specs.Encoding.{encoding}
@@ -23,7 +23,8 @@ abbrev pub step_form : MovedLists → Form
 step_form moved = slice_index_or moved.forms 0 Itself
 
 -- A step block begins with the image of the instruction, and the image with an instruction of so many bytes, encoded at the place. That instruction does
--- all that the stepped one does except to reach a far target, for which jumps follow: it pushes, counts, tests and accesses memory.
+-- all that the stepped one does except to reach a far target, for which jumps follow: it pushes, counts, tests and accesses memory. It ends at the jump back or
+-- before it.
 pub record IsDoneAt (bits : Bits) (item : Placed) (place : ℕ) (moved : MovedLists) (done : ℕ) : Type 0 where
   pub layout : List ℕ
   pub least : IsLeast (step_plan bits item place) layout
@@ -31,4 +32,5 @@ pub record IsDoneAt (bits : Bits) (item : Placed) (place : ℕ) (moved : MovedLi
   pub jumps : List Instr
   pub image : image_at bits (step_items bits item) (step_plan bits item place) layout 0 ≡ first ∷ jumps
   pub within : done ≤ length moved.bytes
+  pub before_back : place + done ≤ slice_index_or moved.starts 1 0
   pub encoded : encoding bits place first ≡ Ok (take done moved.bytes)

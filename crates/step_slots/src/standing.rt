@@ -96,6 +96,7 @@ pub fn done_len(bits: Bits, item: &Placed, moved: &Moved) -> u8
 {
     move_goals::moved_targets::laws::spellings_are_moved();
     move_goals::branch_forms::laws::pieces_have_their_lengths();
+    block_encoder::laws::moved_blocks_keep_their_laws();
     let form = image_form(moved);
     let first = first_instr(image_of(bits, &item.instr, form, 0, 0, 0));
     plain_length(bits, &first)

@@ -11,4 +11,5 @@ returns-clause-value c =
 pub returns-clause-done : goal.returns-clause-done
 returns-clause-done c = λ place stood.
     subst (λ (n : ℕ). IsDoneAt c.args.bits c.args.item.now place c.args.moved.now n) (sym (returns-clause-value c))
-    (done-at c.args.bits c.args.item.now place c.args.moved.now stood c.spellings_are_moved.ensures c.pieces_have_their_lengths.ensures)
+    (done-at c.args.bits c.args.item.now place c.args.moved.now stood c.spellings_are_moved.ensures c.pieces_have_their_lengths.ensures
+    c.moved_blocks_keep_their_laws.ensures)
