@@ -119,7 +119,7 @@ pub mod region {
 }
 
 /// Slots for displaced single stepping: an instruction elsewhere, and the jump back. `step_code` takes bytes, and `step_at` makes the same block at a
-/// place of the caller's.
+/// place of the caller's. `done_len` returns from which byte of that block on the instruction has happened.
 pub mod slots {
     pub use crate::stepping::{StepCodeError, step_code};
     pub use step_slots::{
