@@ -43,7 +43,7 @@ extern "C" {
 /* ---- versions ---------------------------------------------------------------------------------------------- */
 
 /* The interface that this header declares. It rises when a struct, a number or a function changes. */
-#define FEDDURZAI_INTERFACE 3
+#define FEDDURZAI_INTERFACE 4
 
 /*
  * Returns the interface of the linked library. If it is not FEDDURZAI_INTERFACE, the library does not match this
@@ -1106,6 +1106,7 @@ typedef struct feddurzai_step_report {
     uint64_t back_at;   /* the offset of its jump back: control reaches it when the instruction is complete */
     uint64_t address;   /* _TOO_FAR: the target; _WRAPS: the end of the code, modulo 2^64 */
     uint8_t len;        /* the length of the instruction */
+    uint8_t done_at;    /* the offset from which on the instruction has happened: done_at <= back_at */
 } feddurzai_step_report;
 
 /*
@@ -1122,21 +1123,27 @@ typedef struct feddurzai_step_report {
  * Every target is kept: a branch or an operand at RIP or EIP reaches what it reached, even if that is the instruction
  * itself.
  *
- * The debugger translates addresses as follows.
- *  - At place + report->back_at the instruction is complete: report old_ip + report->len.
- *  - At `place` the instruction has not completed: report old_ip. This includes a fault, and a repeated string
- *    instruction that was interrupted.
- *  - At an address between the two, step on. The code may be several instructions; a debugger that uses the trap flag
- *    steps until control is at back_at or outside the code. For a conditional jump (Jcc, JRCXZ) nothing has changed
- *    yet, and old_ip may be reported. For LOOP, LOOPE and LOOPNE it may not: if the code is a bridge, its first
- *    instruction has decremented the counter before the final jump.
+ * The first instruction of the code, up to done_at, does what the stepped instruction does. If it cannot reach its
+ * target by itself, jumps follow up to back_at: after LOOP 0x1010, for example, e2 02 (LOOP over the next jump), eb 05
+ * (JMP to back_at) and e9 (JMP 0x1010). done_at is 2 there, and back_at is 9.
+ *
+ * The debugger translates the offset of control in the code as follows.
+ *  - Before done_at the instruction has not happened: report old_ip, and resume there or at `place`. This includes a
+ *    fault, and a repeated string instruction that was interrupted.
+ *  - From done_at on and before back_at it has happened, and only the jump to where it goes is left: step on. A
+ *    debugger that uses the trap flag steps until control is at back_at or outside the code. Never resume at old_ip:
+ *    LOOP, LOOPE and LOOPNE have decremented their counter, and would decrement it twice. Jcc, JCXZ, JECXZ and JRCXZ
+ *    have changed nothing.
+ *  - At back_at it is complete: report old_ip + report->len.
  *
  * Two kinds of instruction leave an address of the code behind:
- *  - A CALL pushes the address after it in the code. The procedure returns there, and the jump back continues at the
- *    right address. Keep the code until then, or replace the pushed address by old_ip + report->len.
- *  - SYSCALL pushes nothing. It leaves the address after it in RCX, and SYSRET returns there. Keep the code until the
- *    system call returns; the program sees the address of the code in RCX, unless the debugger replaces it by old_ip +
- *    report->len.
+ *  - A CALL pushes the address after it in the code, place + done_at, which is place + back_at. The procedure returns
+ *    there, and the jump back continues at the right address. Keep the code until then, or replace the pushed address
+ *    by old_ip + report->len. Until the debugger replaces it, a procedure that reads its return address reads that of
+ *    the code, and so does an unwinder.
+ *  - SYSCALL pushes nothing. It leaves the address after it, place + done_at, in RCX, and SYSRET returns there. Keep
+ *    the code until the system call returns; the program sees the address of the code in RCX, unless the debugger
+ *    replaces it by old_ip + report->len.
  *
  * To place the code of many threads, reserve feddurzai_step_len (or FEDDURZAI_MAX_STEP) bytes by
  * feddurzai_region_reserve, write the code by feddurzai_region_fill, and free it by feddurzai_region_release.
@@ -1147,7 +1154,10 @@ typedef struct feddurzai_step_report {
  *
  *     // call 0x2000 at 0x1000, to be stepped at 0x1800
  *     len = feddurzai_step(64, 0x1000, (const uint8_t *)"\xe8\xfb\x0f\x00\x00", 5, 0x1800, out, sizeof out, &report);
- *     // len is 10: e8 fb 07 00 00, call 0x2000, and e9 fb f7 ff ff, jmp 0x1005; report.back_at is 5
+ *     // len is 10: e8 fb 07 00 00, call 0x2000, and e9 fb f7 ff ff, jmp 0x1005; done_at and back_at are 5
+ *     // loop 0x1010 at 0x1000, to be stepped at 0x2000
+ *     len = feddurzai_step(64, 0x1000, (const uint8_t *)"\xe2\x0e", 2, 0x2000, out, sizeof out, &report);
+ *     // len is 14: e2 02 eb 05 e9 07 f0 ff ff, and e9 f4 ef ff ff, jmp 0x1002; done_at is 2 and back_at is 9
  */
 int32_t feddurzai_step(uint32_t bits, uint64_t old_ip, const uint8_t *bytes, size_t len, uint64_t place, uint8_t *out,
     size_t room, feddurzai_step_report *report);

@@ -126,7 +126,8 @@ static struct stop *stop_before(uint64_t rip)
     return NULL;
 }
 
-/* steps a process until the instruction of a slot is complete, and moves it to where it would be without the slot */
+/* steps a process until the instruction of a slot is complete, and moves it to where it would be without the slot. Between
+   done_at and back_at the instruction has happened and a jump to its target is left, so the debugger must not go back to ip */
 static int step_through(pid_t child, const struct stop *stop, struct user_regs_struct *regs)
 {
     int status;

@@ -99,6 +99,7 @@ static void check_layout(void)
     CHECK(offsetof(feddurzai_step_report, back_at), 8);
     CHECK(offsetof(feddurzai_step_report, address), 16);
     CHECK(offsetof(feddurzai_step_report, len), 24);
+    CHECK(offsetof(feddurzai_step_report, done_at), 25);
     CHECK(sizeof(feddurzai_detour_report), 64);
     CHECK(offsetof(feddurzai_detour_report, bytes), 8);
     CHECK(offsetof(feddurzai_detour_report, jump_back), 16);
@@ -819,8 +820,9 @@ static void check_kept_targets(void)
     free(out);
 }
 
-/* what a step of one instruction at 0x1000 is at a place: the bytes, and where its jump back stands */
-static void check_step(uint32_t bits, const char *bytes, size_t len, uint64_t place, const char *want, size_t want_len, uint64_t back_at)
+/* what a step of one instruction at 0x1000 is at a place: the bytes, where the instruction has happened, and where its jump back is */
+static void check_step(uint32_t bits, const char *bytes, size_t len, uint64_t place, const char *want, size_t want_len, uint64_t done_at,
+    uint64_t back_at)
 {
     uint8_t *out = malloc(FEDDURZAI_MAX_STEP + 1);
     feddurzai_step_report *r = malloc(sizeof *r);
@@ -829,6 +831,7 @@ static void check_step(uint32_t bits, const char *bytes, size_t len, uint64_t pl
     CHECK(memcmp(out, want, want_len), 0);
     CHECK(is_untouched(out + want_len, FEDDURZAI_MAX_STEP + 1 - want_len), 1);
     CHECK(r->bytes, want_len);
+    CHECK(r->done_at, done_at);
     CHECK(r->back_at, back_at);
     CHECK(r->len, len);
     CHECK(r->address, 0);
@@ -850,16 +853,27 @@ static void check_steps(void)
     uint64_t place = 0;
     int32_t len;
     /* push rax, and jmp 0x1001 */
-    check_step(64, "\x50", 1, 0x2000, "\x50\xe9\xfb\xef\xff\xff", 6, 1);
-    check_step(32, "\x50", 1, 0x2000, "\x50\xe9\xfb\xef\xff\xff", 6, 1);
-    check_step(16, "\x50", 1, 0x2000, "\x50\xe9\xfd\xef", 4, 1);
+    check_step(64, "\x50", 1, 0x2000, "\x50\xe9\xfb\xef\xff\xff", 6, 1, 1);
+    check_step(32, "\x50", 1, 0x2000, "\x50\xe9\xfb\xef\xff\xff", 6, 1, 1);
+    check_step(16, "\x50", 1, 0x2000, "\x50\xe9\xfd\xef", 4, 1, 1);
     /* jmp to itself: to where it stood */
-    check_step(64, "\xeb\xfe", 2, 0x1080, "\xe9\x7b\xff\xff\xff\xe9\x78\xff\xff\xff", 10, 5);
-    /* loop 0x1010: there it is a loop over a jump, and a jump behind these */
-    check_step(64, "\xe2\x0e", 2, 0x2000, "\xe2\x02\xeb\x05\xe9\x07\xf0\xff\xff\xe9\xf4\xef\xff\xff", 14, 9);
+    check_step(64, "\xeb\xfe", 2, 0x1080, "\xe9\x7b\xff\xff\xff\xe9\x78\xff\xff\xff", 10, 5, 5);
+    /* loop 0x1010: there it is a loop over a jump, and a jump behind these; the loop alone has happened after its 2 bytes */
+    check_step(64, "\xe2\x0e", 2, 0x2000, "\xe2\x02\xeb\x05\xe9\x07\xf0\xff\xff\xe9\xf4\xef\xff\xff", 14, 2, 9);
+    /* the same on ECX: the address size of the counter stays, and it has 3 bytes: jmp 0x1003 behind it */
+    check_step(64, "\x67\xe2\x0d", 3, 0x2000, "\x67\xe2\x02\xeb\x05\xe9\x06\xf0\xff\xff\xe9\xf4\xef\xff\xff", 15, 3, 10);
+    /* jcxz 0x1010 in 16-bit code: e3, a jump of 2 bytes and one of 3, and a jump to 0x1002 */
+    check_step(16, "\xe3\x0e", 2, 0x2000, "\xe3\x02\xeb\x03\xe9\x09\xf0\xe9\xf8\xef", 10, 2, 7);
+    /* je 0x1010 that reaches as it is, by an offset of 4 bytes: one instruction */
+    check_step(64, "\x74\x0e", 2, 0x2000, "\x0f\x84\x0a\xf0\xff\xff\xe9\xf7\xef\xff\xff", 11, 6, 6);
+    /* je out of its reach: jne over a jmp through its address, so 2 bytes; both addresses behind the jump back */
+    check_step(64, "\x74\x0e", 2, 0x7f0000000000,
+        "\x75\x06\xff\x25\x08\0\0\0\xff\x25\x0a\0\0\0\xcc\xcc\x10\x10\0\0\0\0\0\0\x02\x10\0\0\0\0\0\0", 32, 2, 8);
+    /* syscall: RCX gets the address of the jump back */
+    check_step(64, "\x0f\x05", 2, 0x2000, "\x0f\x05\xe9\xfb\xef\xff\xff", 7, 2, 2);
     /* a call through its address behind the jump back, which also has one */
     check_step(64, (const char *)call, 5, 0x7f0000000000,
-        "\xff\x15\x0a\0\0\0\xff\x25\x0c\0\0\0\xcc\xcc\xcc\xcc\0\x20\0\0\0\0\0\0\x05\x10\0\0\0\0\0\0", 32, 6);
+        "\xff\x15\x0a\0\0\0\xff\x25\x0c\0\0\0\xcc\xcc\xcc\xcc\0\x20\0\0\0\0\0\0\x05\x10\0\0\0\0\0\0", 32, 6, 6);
     /* an address is taken modulo 2 to the power of bits: jmp 0 behind the last byte of 16-bit code */
     CHECK(feddurzai_step(16, 0x5ffff, (const uint8_t *)"\x50", 1, 0x10, out, sizeof out, &r), 4);
     CHECK(out[1] == 0xe9 && out[2] == 0xec && out[3] == 0xff, 1);
@@ -869,7 +883,7 @@ static void check_steps(void)
     CHECK(feddurzai_step(64, 0x1000, bad, 1, 0x2000, out, sizeof out, &r), FEDDURZAI_INVALID);
     CHECK(feddurzai_step(64, 0x1000, call, 4, 0x2000, out, sizeof out, &r), FEDDURZAI_TOO_SHORT);
     CHECK(feddurzai_step(16, 0x1000, (const uint8_t *)"\x50", 1, 0xfffe, out, sizeof out, &r), FEDDURZAI_WRAPS);
-    CHECK(r.bytes == 0 && r.back_at == 0 && r.len == 0 && r.address == 0x10002, 1);
+    CHECK(r.bytes == 0 && r.back_at == 0 && r.len == 0 && r.done_at == 0 && r.address == 0x10002, 1);
     CHECK(feddurzai_step(16, 0x1000, (const uint8_t *)"\x50", 1, 0x20000, out, sizeof out, &r), FEDDURZAI_WRAPS);
     CHECK(r.address, 0x20004);
     CHECK(feddurzai_step(64, 0x1000, load, 6, 0x7f0000000000, out, sizeof out, &r), FEDDURZAI_TOO_FAR);

@@ -261,8 +261,10 @@ def stepped_elsewhere():
     # a call and a jump back, worked out manually; the same at an offset of more bytes
     for given in ((0x1000, call), (0xFFF, b"\x90" + call, 1)):
         made = f.step(64, given[0], given[1], 0x1800, *given[2:])
-        check(made, f.Step(code("e8fb070000e9fbf7ffff"), 5, 5))
+        check(made, f.Step(code("e8fb070000e9fbf7ffff"), 5, 5, 5))
         check(f.step_len(64, given[0], given[1], 0x1800, *given[2:]), 32)
+    # loop 0x1010: e2 over a jump to the end, and a jump; the counter is decremented after 2 of its 9 bytes
+    check(f.step(64, 0x1000, code("e20e"), 0x2000), f.Step(code("e202eb05e907f0ffffe9f4efffff"), 9, 2, 2))
     check(f.step(16, 0x5FFFF, b"\x50", 0x10).code, code("50e9ecff"))
     check(max(f.step_len(64, 0, kind, base) for kind in (call, code("e200")) for base in range(16)) <= f.MAX_STEP, True)
     refused(f.Reason.BAD_MODE, f.step, 17, 0, call, 0)

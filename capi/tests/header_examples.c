@@ -200,10 +200,18 @@ static void stepped(void)
     feddurzai_step_report report;
     // call 0x2000 at 0x1000, to be stepped at 0x1800
     len = feddurzai_step(64, 0x1000, (const uint8_t *)"\xe8\xfb\x0f\x00\x00", 5, 0x1800, out, sizeof out, &report);
-    // len is 10: e8 fb 07 00 00, call 0x2000, and e9 fb f7 ff ff, jmp 0x1005; report.back_at is 5
+    // len is 10: e8 fb 07 00 00, call 0x2000, and e9 fb f7 ff ff, jmp 0x1005; done_at and back_at are 5
     CHECK(len, 10);
     CHECK_BYTES(out, "\xe8\xfb\x07\x00\x00\xe9\xfb\xf7\xff\xff");
+    CHECK(report.done_at, 5);
     CHECK(report.back_at, 5);
+    // loop 0x1010 at 0x1000, to be stepped at 0x2000
+    len = feddurzai_step(64, 0x1000, (const uint8_t *)"\xe2\x0e", 2, 0x2000, out, sizeof out, &report);
+    // len is 14: e2 02 eb 05 e9 07 f0 ff ff, and e9 f4 ef ff ff, jmp 0x1002; done_at is 2 and back_at is 9
+    CHECK(len, 14);
+    CHECK_BYTES(out, "\xe2\x02\xeb\x05\xe9\x07\xf0\xff\xff\xe9\xf4\xef\xff\xff");
+    CHECK(report.done_at, 2);
+    CHECK(report.back_at, 9);
 }
 
 static void followed(void)

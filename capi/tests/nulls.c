@@ -273,9 +273,9 @@ static void check_empty(void)
     CHECK(feddurzai_region_fill(&region, NULL, 0, 0, NULL, 0, NULL, 0), FEDDURZAI_BAD_REGION);
     CHECK(nothing_was_written(), 1);
     CHECK(feddurzai_step(64, 0x1000, mov, 5, 0x2000, NULL, 0, &step), FEDDURZAI_NO_ROOM);
-    CHECK(step.bytes == 10 && step.back_at == 5 && step.address == 0 && step.len == 5, 1);
+    CHECK(step.bytes == 10 && step.back_at == 5 && step.address == 0 && step.len == 5 && step.done_at == 5, 1);
     CHECK(feddurzai_step(64, 0x1000, NULL, 0, 0x2000, NULL, 0, &step), FEDDURZAI_TOO_SHORT);
-    CHECK(step.bytes == 0 && step.back_at == 0 && step.address == 0 && step.len == 0, 1);
+    CHECK(step.bytes == 0 && step.back_at == 0 && step.address == 0 && step.len == 0 && step.done_at == 0, 1);
     memset(&step, 0xaa, sizeof step);
     CHECK(feddurzai_step_len(64, 0, NULL, 0, 0), FEDDURZAI_TOO_SHORT);
     CHECK(feddurzai_detour(64, 0x1000, small, 7, 0x2000, 0x3000, 0, NULL, 0, NULL, 0, &detour), FEDDURZAI_NO_ROOM);
@@ -331,7 +331,7 @@ static void check_zeros(void)
     CHECK(feddurzai_region_release(&region, live, 2, 0), FEDDURZAI_BAD_REGION);
     CHECK(feddurzai_region_fill(&region, live, 2, 0, NULL, 0, out, 0), FEDDURZAI_BAD_REGION);
     CHECK(feddurzai_step(0, 0, NULL, 0, 0, NULL, 0, &step), FEDDURZAI_BAD_MODE);
-    CHECK(step.bytes == 0 && step.back_at == 0 && step.address == 0 && step.len == 0, 1);
+    CHECK(step.bytes == 0 && step.back_at == 0 && step.address == 0 && step.len == 0 && step.done_at == 0, 1);
     CHECK(feddurzai_step_len(0, 0, NULL, 0, 0), FEDDURZAI_BAD_MODE);
     CHECK(feddurzai_detour(0, 0, NULL, 0, 0, 0, 0, NULL, 0, NULL, 0, &detour), FEDDURZAI_BAD_MODE);
     CHECK(detour.taken == 0 && detour.bytes == 0 && detour.jump_back == 0 && detour.at == 0 && detour.target == 0, 1);
@@ -403,7 +403,7 @@ static void check_rooms_of_steps(void)
         uint8_t *bytes = room_of(room);
         int fits = room >= 10;
         CHECK(feddurzai_step(64, 0x1000, mov, sizeof mov, 0x2000, bytes, room, &step), fits ? 10 : FEDDURZAI_NO_ROOM);
-        CHECK(step.bytes == 10 && step.back_at == 5 && step.len == 5, 1);
+        CHECK(step.bytes == 10 && step.back_at == 5 && step.len == 5 && step.done_at == 5, 1);
         CHECK(fits ? memcmp(bytes, mov, sizeof mov) == 0 && is_untouched(bytes + 10, room - 10 + SPARE) : is_untouched(bytes, room + SPARE), 1);
         free(bytes);
     }

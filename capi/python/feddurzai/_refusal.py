@@ -114,8 +114,8 @@ class BlocksReport:
 
 @dataclass(frozen=True)
 class StepReport:
-    """The report of `step`: the size of the code, the offset of its jump back, and the length of the instruction. After a refusal `address`
-    is the target that is out of reach, or the end that is past the address space.
+    """The report of `step`: the size of the code, the offset of its jump back, the length of the instruction, and the offset from which on it
+    has happened. After a refusal `address` is the target that is out of reach, or the end that is past the address space.
 
     >>> try:
     ...     step(16, 0x1000, b"\\x90", 0xFFFE)
@@ -128,6 +128,7 @@ class StepReport:
     back_at: int
     address: int
     len: int
+    done_at: int
 
 
 Report = Union[MoveReport, DetourReport, BlocksReport, StepReport]

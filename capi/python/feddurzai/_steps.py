@@ -9,21 +9,23 @@ from ._numbers import Reason
 from ._refusal import StepReport, refusal_of, taken
 from ._region import Region
 
-_STEP_REPORT = struct.Struct("=3QB7x")
+_STEP_REPORT = struct.Struct("=3Q2B6x")
 _StepRoom = _native.room_of(_STEP_REPORT.size)
 _CodeRoom = _native.room_of(_native.MAX_STEP)
 
 
 class Step(NamedTuple):
-    """The code that runs an instruction at another address: its bytes, the offset of its jump back, and the length of the instruction.
+    """The code that runs an instruction at another address: its bytes, the offset of its jump back, the length of the instruction, and the
+    offset from which on the instruction has happened.
 
     >>> step(64, 0x1000, b"\\x50", 0x2000)
-    Step(code=b'P\\xe9\\xfb\\xef\\xff\\xff', back_at=1, len=1)
+    Step(code=b'P\\xe9\\xfb\\xef\\xff\\xff', back_at=1, len=1, done_at=1)
     """
 
     code: bytes
     back_at: int
     len: int
+    done_at: int
 
 
 def step(bits: int, old_ip: int, code: Buffer, place: int, at: int = 0) -> Step:
@@ -33,16 +35,22 @@ def step(bits: int, old_ip: int, code: Buffer, place: int, at: int = 0) -> Step:
     The instruction is at offset `at` of `code`, whose first byte has the address `old_ip`. `code` has the program's own bytes, without the
     breakpoint. Every target stays, even if it is the instruction itself.
 
-    At `place + back_at` the instruction is complete: report the address after it. At `place` it has not completed: report its address. At an
-    address between the two, step on. There, LOOP, LOOPE and LOOPNE have already decremented their counter. A CALL pushes the address after it
-    in the code, so keep the code until the procedure returns. SYSCALL pushes nothing, but leaves that address in RCX.
+    At an offset of the code before `done_at` the instruction has not happened: report its address. From `done_at` on and before `back_at` it
+    has happened, and only the jump to where it goes is left: step on. Never resume at its address there: LOOP, LOOPE and LOOPNE have
+    decremented their counter, and would decrement it twice. At `back_at` it is complete: report the address after it.
+
+    A CALL pushes the address after it in the code, so keep the code until the procedure returns. SYSCALL pushes nothing, but leaves that
+    address in RCX.
 
     Raises InvalidCode and TooShort as `decode` does, and Refusal with a report and BAD_MODE, WRAPS (the code extends past the address space),
     TOO_FAR (the instruction cannot reach its target from `place`) or NO_MEMORY.
 
     >>> made = step(64, 0x1000, bytes.fromhex("e8fb0f0000"), 0x1800)
-    >>> made.code.hex(), made.back_at
-    ('e8fb070000e9fbf7ffff', 5)
+    >>> made.code.hex(), made.done_at, made.back_at
+    ('e8fb070000e9fbf7ffff', 5, 5)
+    >>> made = step(64, 0x1000, bytes.fromhex("e20e"), 0x2000)
+    >>> made.code.hex(), made.done_at, made.back_at
+    ('e202eb05e907f0ffffe9f4efffff', 2, 9)
     """
     window = _checks.front_bytes("code", code, at, _native.MAX_LEN)
     bits, old_ip = _checks.number("bits", bits, _checks.U32), _checks.number("old_ip", old_ip) + at & _checks.U64
@@ -51,7 +59,7 @@ def step(bits: int, old_ip: int, code: Buffer, place: int, at: int = 0) -> Step:
     report = StepReport(*_STEP_REPORT.unpack(room.raw))
     if said < 0:
         raise refusal_of(said, report)
-    return Step(out.raw[:said], report.back_at, report.len)
+    return Step(out.raw[:said], report.back_at, report.len, report.done_at)
 
 
 def step_len(bits: int, old_ip: int, code: Buffer, base: int, at: int = 0) -> int:

@@ -10,6 +10,7 @@ use Rattle.move_goals.specs.declared.items.Placed.{Placed}
 use Rattle.block_encoder.specs.Moved.{MovedLists}
 use Rattle.step_slots.specs.declared.standing.StandError.TheVariants.{Memory as NoMemory, Wraps as EndWraps, TooFar as OutOfReach}
 use Rattle.step_slots.specs.Block.{reserved_room}
+use Rattle.step_slots.specs.Done.{IsDoneAt}
 use Rattle.step_slots.specs.Standing.{IsStood, FitsReserved}
 use Rattle.c_calls.specs.declared.refusal.Refusal.{Refusal}
 use Rattle.c_calls.specs.declared.refusal.Refusal.TheVariants as why
@@ -41,12 +42,14 @@ pub record IsShortStep (code : StepCode) : Type 0 where
   pub short : length code.moved.bytes ≤ 53
   pub parts : length code.moved.starts ≡ 2
 
--- The code is the block of the instruction that is read, at the place: the one of a step slot there. It has no more bytes than are reserved for it.
+-- The code is the block of the instruction that is read, at the place: the one of a step slot there. It has no more bytes than are reserved for it. It
+-- begins with an encoded instruction, at whose end the stepped one has happened.
 pub record IsSteppedBy (bits : Bits) (ip : ℕ) (bytes : List ℕ) (place : ℕ) (code : StepCode) : Type 0 where
   pub item : Placed
   pub reads : IsStepItemAt bits ip bytes item
   pub stood : IsStood bits item place (Ok code.moved)
   pub len : code.len ≡ item.len
+  pub done : IsDoneAt bits item place code.moved code.done
   pub fits : FitsReserved bits item place code.moved.bytes
   pub short : IsShortStep code
 
@@ -88,7 +91,7 @@ back_offset moved place = slice_index_or moved.starts 1 0 - place
 
 -- no numbers
 abbrev pub no_step : FlatStep
-no_step = record { bytes = 0; back_at = 0; address = 0; len = 0 }
+no_step = record { bytes = 0; back_at = 0; address = 0; len = 0; done_at = 0 }
 
 -- the numbers of a refusal: the end of the code modulo 2 ^ 64, or the target
 abbrev pub refusal_report : StepRefusal → FlatStep
@@ -96,9 +99,10 @@ refusal_report (NotStood (EndWraps end)) = record no_step { address = end % 2 ^ 
 refusal_report (NotStood (OutOfReach target)) = record no_step { address = target }
 refusal_report _ = no_step
 
--- how many bytes there are, where the jump back stands, and how many bytes the instruction had, also where the room is too small; or those of the refusal
+-- how many bytes there are, where the jump back stands, how many bytes the instruction had, and after how many it has happened, also where the room is too
+-- small; or those of the refusal
 abbrev pub step_report : ℕ → Result StepCode StepRefusal → FlatStep
-step_report place (Ok code) = record no_step { bytes = length code.moved.bytes; back_at = back_offset code.moved place; len = code.len }
+step_report place (Ok code) = record no_step { bytes = length code.moved.bytes; back_at = back_offset code.moved place; len = code.len; done_at = code.done }
 step_report place (Err e) = refusal_report e
 
 -- what the call says and leaves

@@ -243,6 +243,8 @@ pub struct FlatStep {
     pub address: u64,
     /// How many bytes the instruction had.
     pub len: u8,
+    /// The offset from which on the instruction has happened; there the jumps of its image begin, or else the jump back.
+    pub done_at: u8,
 }
 
 /// A fixed range of addresses that holds blocks of code.

@@ -13,14 +13,15 @@ use crate::refusal::{Refusal, refusal_status};
 use block_encoder::{Moved, Placed};
 use decoder::{DecodeError, decode_in};
 use std::alloc::Global;
-use step_slots::{StandError, step_at};
+use step_slots::{StandError, done_len, step_at};
 use x86_values::Bits;
 
-/// The code of a step, and how many bytes its instruction had.
+/// The code of a step, how many bytes its instruction had, and how many bytes of the code have run when that has happened.
 #[derive(Drop)]
 pub(crate) struct StepCode {
     pub(crate) moved: Moved,
     pub(crate) len: u8,
+    pub(crate) done: u8,
 }
 
 /// Why there is no code of a step.
@@ -86,10 +87,14 @@ fn step_in(
 {
     match item_in(bits, ip, bytes) {
         Ok(item) => match step_at(alloc, bits, item, place) {
-            Ok(moved) => Ok(StepCode {
-                moved,
-                len: item.len,
-            }),
+            Ok(moved) => {
+                let done = done_len(bits, &item, &moved);
+                Ok(StepCode {
+                    moved,
+                    len: item.len,
+                    done,
+                })
+            }
             Err(why) => Err(StepRefusal::NotStood(why)),
         },
         Err(why) => Err(StepRefusal::BadCode(why)),
@@ -118,6 +123,7 @@ const NOTHING: FlatStep = FlatStep {
     back_at: 0,
     address: 0,
     len: 0,
+    done_at: 0,
 };
 
 /// The offset of the jump back, in the code at a place.
@@ -155,6 +161,7 @@ fn report_of(answer: &Result<StepCode, StepRefusal>, place: u64) -> FlatStep
             bytes: code.moved.bytes().len() as u64,
             back_at: back_offset(&code.moved, place),
             len: code.len,
+            done_at: code.done,
             ..NOTHING
         },
         Err(why) => refusal_report(*why),

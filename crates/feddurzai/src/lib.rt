@@ -118,12 +118,12 @@ pub mod region {
 }
 
 /// Slots for displaced single stepping: an instruction elsewhere, and the jump back. `step_code` takes bytes, and `step_at` makes the same block at a
-/// place of the caller's.
+/// place of the caller's. `done_len` returns from which byte of that block on the instruction has happened.
 pub mod slots {
     pub use crate::stepping::{StepCodeError, step_code};
     pub use step_slots::{
-        StandError, StepCommand, StepError, StepReply, StepSlot, StepSlots, laws, replay, step_at,
-        step_len,
+        StandError, StepCommand, StepError, StepReply, StepSlot, StepSlots, done_len, laws, replay,
+        step_at, step_len,
     };
 }
 

@@ -11,8 +11,8 @@ use std::alloc::Global;
 /// reaches what the instruction reached, even if that is the instruction itself, and a jump back to the address after it. It returns the number of bytes, 1 to
 /// 53.
 ///
-/// `report` receives that number, the offset of the jump back and the number of bytes of the instruction, also if the buffer is too small; or the address of
-/// the refusal. The buffer is unchanged after the bytes, and after a refusal: `Mode`; `Invalid` or `TooShort`; `Wraps` if the code would end past the address
+/// `report` receives that number, the offset of the jump back, the number of bytes of the instruction and the offset from which on it has happened, also if the
+/// buffer is too small; or the address of the refusal. The buffer is unchanged after the bytes, and after a refusal: `Mode`; `Invalid` or `TooShort`; `Wraps` if the code would end past the address
 /// space, with that end modulo 2 to the 64; `TooFar` if the instruction cannot reach its target, with that; `Room`. `Memory` may replace any of those after
 /// `TooShort`. The call allocates from the C library, and frees what it took.
 #[unsafe(no_mangle)]

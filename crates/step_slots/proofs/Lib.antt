@@ -4,3 +4,4 @@ pub mod StepAnswers
 pub mod Stood
 pub mod Kept
 pub mod Slotted
+pub mod Done

@@ -1,5 +1,6 @@
 pub mod Block
 pub mod Standing
+pub mod Done
 pub mod State
 pub mod Stepping
 pub mod Running

@@ -15,4 +15,4 @@ pub use code_region::{NotTaken, OpenError};
 pub use commands::{StepCommand, StepReply, replay};
 pub use refusals::StepError;
 pub use slots::{StepSlot, StepSlots};
-pub use standing::{StandError, step_at, step_len};
+pub use standing::{StandError, done_len, step_at, step_len};

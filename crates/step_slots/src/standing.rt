@@ -1,16 +1,21 @@
 //! The block of an instruction at a place that the caller chooses.
 
-ghost use Rattle.std.specs.Prelude.{◌≡◌, ◌<◌, ◌≤◌, length, IfOk};
-ghost use Rattle.move_goals.specs.Items.{IsPlaced};
+ghost use Rattle.std.specs.Prelude.{◌≡◌, ◌<◌, ◌≤◌, ℕ, length, slice_index_or, IfOk, Ok};
+ghost use Rattle.move_goals.specs.BranchForms.Images.{instrs_of};
+ghost use Rattle.move_goals.specs.Items.{IsPlaced, no_instr};
 ghost use Rattle.step_slots.specs.Block.{reserved_room};
+ghost use Rattle.step_slots.specs.Done.{IsDoneAt, done_length, step_form};
 ghost use Rattle.step_slots.specs.Standing.{IsStood, FitsReserved};
 
 use crate::block::step_items;
 use crate::laws_below::laws_below;
 use block_encoder::{MoveError, Moved, Placed, last_len, move_outside};
+use branch_sizes::Form;
+use move_goals::branch_forms::{Image, image_of};
+use move_goals::moved_targets::plain_length;
 use std::alloc::Global;
 use thiserror::Error;
-use x86_values::Bits;
+use x86_values::{Bits, Instr};
 
 /// Why an instruction has no block at an address.
 #[derive(Clone, Copy, PartialEq, Eq, Debug, Error)]
@@ -24,6 +29,17 @@ pub enum StandError {
     /// The instruction does not reach its target from the place, which is this address.
     #[error("cannot reach {target:#x}")]
     TooFar { target: u64 },
+}
+
+/// Returns the first instruction of an image.
+fn first_instr(image: Image) -> Instr
+    ensures { result ≡ slice_index_or (instrs_of image) 0 no_instr }
+{
+    match image {
+        Image::One(first) => first,
+        Image::Two(first, _) => first,
+        Image::Three(first, _, _) => first,
+    }
 }
 
 /// Returns the block of an instruction at an address: its moved image, which keeps its target, and a jump back to the address after the original
@@ -64,4 +80,27 @@ pub fn step_len(bits: Bits, item: Placed, base: u64) -> u64
     laws_below();
     let items = step_items(bits, item);
     last_len(bits, &items, base)
+}
+
+/// Returns the form of the instruction's image in its block.
+fn image_form(moved: &Moved) -> Form
+    ensures { result ≡ step_form moved.now }
+{
+    moved.forms().first().copied().unwrap_or(Form::Itself)
+}
+
+/// Returns the offset in a block from which its instruction has happened: the length of the first instruction of its image.
+///
+/// If a branch cannot reach its target in one instruction, jumps follow that one; a LOOP has already counted when they are reached. Before this
+/// offset the instruction has not happened. `moved` must be the result of [`step_at`] for `item`.
+pub fn done_len(bits: Bits, item: &Placed, moved: &Moved) -> u8
+    ensures value { result ≡ done_length bits item.now.instr (step_form moved.now) }
+    ensures done { (place : ℕ) → IsStood bits item.now place (Ok moved.now) → IsDoneAt bits item.now place moved.now result }
+{
+    move_goals::moved_targets::laws::spellings_are_moved();
+    move_goals::branch_forms::laws::pieces_have_their_lengths();
+    block_encoder::laws::moved_blocks_keep_their_laws();
+    let form = image_form(moved);
+    let first = first_instr(image_of(bits, &item.instr, form, 0, 0, 0));
+    plain_length(bits, &first)
 }

@@ -138,4 +138,5 @@ pub(crate) const NO_STEP: FlatStep = FlatStep {
     back_at: 9,
     address: 9,
     len: 9,
+    done_at: 9,
 };

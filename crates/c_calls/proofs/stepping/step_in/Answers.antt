@@ -7,6 +7,7 @@ returns-in-Ok-step_at c = record {
   reads = c.in-Ok.ensures.answer;
   stood = c.in-Ok-step_at.ensures.answer;
   len = refl;
+  done = c.done_len-done.ensures.done c.args.place c.in-Ok-step_at.ensures.answer;
   fits = c.in-Ok-step_at.ensures.fits;
   short = record { short = c.in-Ok-step_at.ensures.short; parts = c.in-Ok-step_at.ensures.starts };
 }
