@@ -21,7 +21,7 @@ fn code_past_the_limit(alloc: Global) -> Result<Vec<u8>, AllocError> {
     Ok(code)
 }
 
-/// Each instruction has a line if 15 bytes from its start on stand before the limit: all but the last 15, which are `nop`. The number of bytes in these
+/// Each instruction has a line if 15 bytes from its start on precede the limit: all but the last 15, which are `nop`. The number of bytes in these
 /// lines and their sum are from a script that makes the lines.
 #[test]
 fn a_byte_past_the_limit_is_told(rt: HostRuntime) -> Result<(), Fail> {
