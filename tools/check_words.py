@@ -7,8 +7,8 @@ Usage, from anywhere in a clone:
   tools/check_words.py --list           prints the refused words with what to write instead
   tools/check_words.py --update-lines   writes the current line counts into the tables of docs/proofs.md, and checks nothing
 
-It reads README.md, the pages of docs/, capi/, bench/ and packaging/ (*.md), the comments of capi/feddurzai.h, and the docstrings (/// and //!) of the crates
-feddurzai, feddurzai_c and c_calls. A finding is a line `FILE:LINE: what was found: what to write instead`.
+It reads README.md, the pages of docs/, capi/, bench/ and packaging/ (*.md), the comments of capi/feddurzai.h, the docstrings (/// and //!) of all crates, and
+the lemmas in their proofs. A finding is a line `FILE:LINE: what was found: what to write instead`.
 
 Checked are:
   - words and phrases that a reader stumbles over. Code is not searched for them: code blocks and text in backticks are skipped.
@@ -17,6 +17,7 @@ Checked are:
     starts with specs/, src/, proofs/ or must-fail/ exists in some crate. Paths with a folder `out` and with placeholders (NAME, my_tool, *, ..) are skipped.
   - markers of the form {{WORD}} that nobody has replaced by a number.
   - line counts in docs/proofs.md that differ from the files; --update-lines corrects them.
+  - public lemmas: a comment line above each says what it states. Answers to the goals of a function, which the kit names, need none.
 """
 import re
 import sys
@@ -28,6 +29,9 @@ READING_LIST = "docs/proofs.md"
 DOCUMENTS = ["README.md", "docs/**/*.md", "capi/*.md", "bench/*.md", "packaging/*.md"]
 HEADERS = ["capi/feddurzai.h"]
 DOCSTRINGS = ["crates/*/src/**/*.rt"]
+LEMMAS = ["crates/*/proofs/**/*.antt"]
+# files of answers, and of names alone
+NO_LEMMAS = ("Answers.antt", "Invariants.antt", "Proof.antt", "Lib.antt")
 
 # what is refused, and what to write instead
 WORDS = [
@@ -298,6 +302,26 @@ def count_findings(page, write=False):
         page.write_text("\n".join(lines) + "\n", encoding="utf-8")
 
 
+def lemma_findings(path):
+    """The public lemmas without a comment line above them. Fields of records are none."""
+    lines = path.read_text(encoding="utf-8").splitlines()
+    record = None
+    for index, line in enumerate(lines):
+        text = line.strip()
+        indent = len(line) - len(line.lstrip())
+        if record is not None and text and indent <= record:
+            record = None
+        if re.match(r"(pub )?record ", text):
+            record = indent
+        lemma = re.match(r"pub (\S+) :", text)
+        if lemma and record is None:
+            above = index - 1
+            while lines[above].strip().startswith("unfolding"):
+                above -= 1
+            if not lines[above].strip().startswith("--"):
+                yield index + 1, f"the public lemma {lemma[1]} has no comment line above it"
+
+
 def findings(path):
     """The findings of a file, by its kind."""
     if path.suffix == ".md":
@@ -308,11 +332,13 @@ def findings(path):
         yield from comment_findings(list(header_lines(path)), WORDS)
     elif path.suffix == ".rt":
         yield from docstring_findings(path)
+    elif path.suffix == ".antt" and path.name not in NO_LEMMAS:
+        yield from lemma_findings(path)
 
 
 def files():
     """All files that are checked."""
-    found = {path for pattern in DOCUMENTS + HEADERS + DOCSTRINGS for path in ROOT.glob(pattern) if path.is_file()}
+    found = {path for pattern in DOCUMENTS + HEADERS + DOCSTRINGS + LEMMAS for path in ROOT.glob(pattern) if path.is_file()}
     return sorted(path for path in found if "out" not in path.relative_to(ROOT).parts)
 
 
