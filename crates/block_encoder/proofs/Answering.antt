@@ -26,6 +26,7 @@ module _ (bits : Bits) (items : List Placed) (spans : List BlockSpan) (old : IsO
   sound_answer (Err (TooFar at target)) h =
       record { old = old; layout = h.layout; least = h.least; ends = h.ends; first = h.first; target_is = h.target_is }
 
+  -- the plan of the blocks decides their answer
   pub answer_is : (p : BlockPlan) → p ≡ plan_for bits spans items → (r : Result MovedLists MoveError) → IsPlanAnswer bits items p r → IsAnswer bits items spans r
   answer_is p planned r h = sound_answer r (subst (λ q. IsPlanAnswer bits items q r) planned h)
 

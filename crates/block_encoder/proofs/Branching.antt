@@ -283,6 +283,7 @@ module _ (laws : MovedLawsBelow) where
         (among_reached p layout k c (own_item spans items k t) (other_item spans items k t) t
         (subst (λ (g : Goal). ReachesGoal p layout k c g) goal-among h))
 
+    -- in 64-bit mode each item reaches its goal
     pub reached-in_64 : IsReached B64 items (plan_for B64 spans items) layout k
     reached-in_64 =
         branch-reached-in_64 items spans (goal_at spans items) s placed few (laws.plans.well_formed B64 spans items placed few s) layout least inside k lt goal-reached

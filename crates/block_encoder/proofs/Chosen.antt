@@ -96,14 +96,17 @@ own-form bits i f lt e = own_by bits i (branch_of i) f lt e
 -- ---- the plan
 
 module _ (bits : Bits) (spans : List BlockSpan) (items : List Placed) (goals : ℕ → Goal) where
+  -- a plan keeps the spans of its blocks
   pub plan-spans : (plan_with bits spans items goals).spans ≡ spans
   unfolding plan_with
   plan-spans = refl
 
+  -- a plan has an item for each item to be moved
   pub plan-count : length (plan_with bits spans items goals).items ≡ length items
   unfolding plan_with
   plan-count = length-map-range_with_len (branch_with bits items goals) 0 (length items)
 
+  -- item k of the plan has the choices and the goal of item k
   pub plan-item : (k : ℕ) → k < length items → plan.item_at (plan_with bits spans items goals) k ≡ branch_with bits items goals k
   unfolding plan_with
   plan-item k lt = get_or-map-range_with_len (branch_with bits items goals) 0 (length items) k k no_branch lt (omega arith)
@@ -115,6 +118,7 @@ module _ (bits : Bits) (spans : List BlockSpan) (items : List Placed) (goals : �
     pub choice-is : item_choice (plan_with bits spans items goals) layout k ≡ get_or (choices_of bits (item_at items k).instr) (get_or layout k 0) no_choice
     choice-is = ap (λ b. get_or b.choices.items (get_or layout k 0) no_choice) (plan-item k lt)
 
+    -- the layout gives each item one of its choices
     pub choice-below : get_or layout k 0 < length (choices_of bits (item_at items k).instr)
     choice-below =
         subst (λ b. get_or layout k 0 < length b.choices.items) (plan-item k lt)
@@ -125,17 +129,21 @@ module _ (bits : Bits) (spans : List BlockSpan) (items : List Placed) (goals : �
     unfolding fragment_at
     fragment-length = rw choice-is (choice-length bits (item_at items k).instr (get_or layout k 0) choice-below)
 
+    -- an item of the form of an instruction that is no branch is no branch
     pub fragment-no_branch : (fragment_at (plan_with bits spans items goals) layout k).form ≡ Itself → branch_of (item_at items k).instr ≡ None
     unfolding fragment_at
     fragment-no_branch e = own-form bits (item_at items k).instr (get_or layout k 0) choice-below (sym (ap (λ x. x.form) choice-is) ∙ e)
 
+    -- a branch has no such form
     pub fragment-own : (b : RelativeBranch) → branch_of (item_at items k).instr ≡ Some b → is_own (item_choice (plan_with bits spans items goals) layout k).form ≡ false
     fragment-own b e = ap (λ c. is_own c.form) choice-is ∙ moved-form bits (item_at items k).instr b (get_or layout k 0) e choice-below
 
+    -- the fragment of an item has the length of its image
     pub fragment-image_length : (fragment_at (plan_with bits spans items goals) layout k).len ≡ image_length (plan_with bits spans items goals) layout k
     unfolding fragment_at
     fragment-image_length = refl
 
+    -- the fragment of an item lies at the item's place
     pub fragment-place : (fragment_at (plan_with bits spans items goals) layout k).place ≡ place (plan_with bits spans items goals) layout k
     unfolding fragment_at
     fragment-place = refl

@@ -96,6 +96,7 @@ module _ (p : BlockPlan) (layout : List ℕ) (b : ℕ) (lt : b < length p.spans)
         length-append (all_slots p layout b) (slots_of p layout b),
       )
 
+  -- the slots of a block are its part of all slots
   pub slots_part : (all : List ℕ) (m n : ℕ) → all ≡ all_slots p layout (length p.spans) → m ≡ length (all_slots p layout b)
       → n ≡ length (slots_of p layout b) → take n (drop m all) ≡ slots_of p layout b
   slots_part all m n e a c = part_is (all_slots p layout b) (slots_of p layout b) all_parts.0 all m n (e ∙ all_parts.1) a c
@@ -133,6 +134,7 @@ module _ (laws : MovedLawsBelow) where
       some_bytes : 1 ≤ image_length p layout k
       some_bytes = laws.lengths.length_at_least 1 (item_at p k).choices.items (get_or layout k 0) (laws.lengths.fit_item p w k lt).rises (l.valid k lt)
 
+      -- each place fits 64 bits
       pub place_fits : place p layout k < 2 ^ 64
       place_fits =
           let b = block_number p.spans k in
@@ -160,6 +162,7 @@ module _ (laws : MovedLawsBelow) where
     goal_fits (Inside j) n h = place_fits j (ltb-true j (length p.items) h)
     goal_fits (Outside t) n h = refl
 
+    -- the fragment of each item is sound
     pub fragment_of : (k : ℕ) → k < length p.items → IsFragmentOf (item_at p k) (fragment_at p layout k)
     unfolding fragment_at
     fragment_of k lt = record {

@@ -34,6 +34,7 @@ width-most B32 = omega arith
 width-most B64 = omega arith
 
 module _ (laws : MovedLawsBelow) where
+  -- if no end passes the address space, each end is inside it
   pub end_within : (bits : Bits) (end : ℕ → ℕ) (n : ℕ) → first_passing bits end n ≡ None → (b : ℕ) → b < n → end b ≤ 2 ^ width bits
   end_within bits end n h b lt =
       let none = no_first end (first_below (λ b. passes bits (end b)) n) h in

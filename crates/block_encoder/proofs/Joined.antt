@@ -28,12 +28,14 @@ module _ (laws : MovedLawsBelow) where
     -- ---- one image
 
     module _ (k : ℕ) (lt : k < length items) (some : IsSome (image_bytes bits items (plan_with bits spans items goals) layout k)) where
+      -- the image of an item has bytes at its place
       pub bytes-are : bytes_from bits (place (plan_with bits spans items goals) layout k) (image_at bits items (plan_with bits spans items goals) layout k) ≡ Some (bytes_at bits items (plan_with bits spans items goals) layout k)
       bytes-are =
           subst (λ (at : ℕ). bytes_from bits at (image_at bits items (plan_with bits spans items goals) layout k) ≡ Some (bytes_at bits items (plan_with bits spans items goals) layout k))
           (fragment-place bits spans items goals layout l k lt)
           (some_or (image_bytes bits items (plan_with bits spans items goals) layout k) some)
 
+      -- the bytes of an image are as many as the image's length
       pub bytes-length : length (bytes_at bits items (plan_with bits spans items goals) layout k) ≡ image_length (plan_with bits spans items goals) layout k
       bytes-length =
           let fragment = fragment_at (plan_with bits spans items goals) layout k in

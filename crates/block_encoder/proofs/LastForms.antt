@@ -167,6 +167,7 @@ module _ (laws : MovedLawsBelow) where
         ap (λ (n : ℕ). if slots == 0 then n else next_eighth n + 8 * slots) e
 
     module _ (k : ℕ) (lt : k < length items) where
+      -- the last layout gives each item its last choice
       pub last-number : get_or (last_layout (plan_outside bits items new_base)) k 0 ≡ length (choices_of bits (item_at items k).instr) - 1
       unfolding last_layout
       last-number =
@@ -215,6 +216,7 @@ module _ (laws : MovedLawsBelow) where
         let step : total f (k + 1) ≡ total f k + f k = rw add-one refl in
         omega (arith, step, ap (λ (c : Choice). c.len) (last-chosen k lt))
 
+    -- one more item adds its goal if its last form is far
     pub goals-next : (k : ℕ) → k < length items
         → far_goals (plan_outside bits items new_base) (last_layout (plan_outside bits items new_base)) 0 (k + 1)
         ≡ with_goal (far_goals (plan_outside bits items new_base) (last_layout (plan_outside bits items new_base)) 0 k)

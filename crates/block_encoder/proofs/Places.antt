@@ -12,10 +12,12 @@ module _ (p : BlockPlan) (layout : List ℕ) (b : ℕ) where
   unfoldable pub place_in : ℕ → ℕ
   place_in k = (span_at p.spans b).new_base + (total (image_length p layout) k - total (image_length p layout) (first_of_block p.spans b))
 
+  -- the first item of a block lies at the block's new base
   pub place-first : place_in (first_of_block p.spans b) ≡ (span_at p.spans b).new_base
   unfolding place_in
   place-first = omega arith
 
+  -- after the last item of a block its images end
   pub place-last : place_in (first_of_block p.spans b + (span_at p.spans b).count) ≡ images_end p layout b
   unfolding place_in images_end
   place-last = refl
@@ -29,6 +31,7 @@ module _ (laws : MovedLawsBelow) where
         let step : total (image_length p layout) (k + 1) ≡ total (image_length p layout) k + image_length p layout k = rw add-one refl in
         omega (arith, step, laws.totals.total_rises (image_length p layout) (first_of_block p.spans b) k from)
 
+    -- places rise within a block
     pub place-rises : (j k : ℕ) → j ≤ k → place_in p layout b j ≤ place_in p layout b k
     unfolding place_in
     place-rises j k le = omega (arith, laws.totals.total_rises (image_length p layout) j k le)

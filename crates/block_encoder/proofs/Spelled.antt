@@ -131,6 +131,7 @@ module _ (laws : MovedLawsBelow) where
   unfolding plain_next
   next_is at row i there = ap (λ (n : ℕ). modulo_width B64 (modulo_width B64 at + n)) (sym (laws.targets.plain_length-row B64 i row there))
 
+  -- a branch with an 8-bit offset whose target is in reach has an encoding
   pub short-encoded : (map : Map) (counts : Bool) (opcode code : ℕ) (asize : Option Bits) (t at : ℕ) → slice_get table code ≡ Some (offset_row map opcode Jb (marks_of counts) B64)
       → address_size_suits B64 (offset_row map opcode Jb (marks_of counts) B64) (branch_to code asize t) ≡ true → plain_length B64 (branch_to code asize t) ≤ 15 → t < 2 ^ 64
       → is_extended_of 1 64 (distance B64 (modulo_width B64 (modulo_width B64 at + plain_length B64 (branch_to code asize t))) t) ≡ true
@@ -142,6 +143,7 @@ module _ (laws : MovedLawsBelow) where
       (short-suits map counts opcode code asize t (modulo_width B64 at) sized below (ap (λ (n : ℕ). is_extended_of 1 64 (distance B64 n t)) (next_is at row (branch_to code asize t) here) ∙ near))
       short
 
+  -- a near branch whose target is in reach has an encoding
   pub near-encoded : (map : Map) (opcode code t at : ℕ) → slice_get table code ≡ Some (offset_row map opcode Jz 20 B64)
       → plain_length B64 (branch_to code None t) ≤ 15 → t < 2 ^ 64
       → is_extended_of 4 64 (distance B64 (modulo_width B64 (modulo_width B64 at + plain_length B64 (branch_to code None t))) t) ≡ true
@@ -155,6 +157,7 @@ module _ (laws : MovedLawsBelow) where
 
   -- ---- through a slot
 
+  -- a branch through a slot in reach has an encoding
   pub slot-encoded : (digit code slot at : ℕ) → slice_get table code ≡ Some (memory_row digit)
       → plain_length B64 (through_slot code slot) ≤ 15 → slot < 2 ^ 64
       → is_extended_of 4 64 (distance B64 (modulo_width B64 (modulo_width B64 at + plain_length B64 (through_slot code slot))) slot) ≡ true

@@ -65,6 +65,7 @@ module _ (laws : MovedLawsBelow) where
       (ll : IsLaidLeast p laid) (none : first_end_past bits laid.ends.items ≡ None) (b i : ℕ)
       (bytes starts : List ℕ) (forms : List Form) (slots ends : List ℕ)
       (written : AreWritten bits items p ll.0 b i bytes starts forms slots ends) (bl : b < length p.spans) where
+    -- what is known of item k when its turn comes
     pub item_facts : i < (span_at p.spans b).count → (k : ℕ) → k ≡ length starts → ItemFacts items p laid b i k
     item_facts il k e =
         let at : k ≡ first_of_block p.spans b + i = placed_count (place p ll.0) starts (first_of_block p.spans b + i) k written.starts_are e in
@@ -106,6 +107,7 @@ module _ (laws : MovedLawsBelow) where
           target_is = (h.1.0 ∙ goal) ∙ ap (goal_address p ll.0) (sym h.0);
         }
 
+    -- what is known of the end of a block when its turn comes
     pub end_facts : (span_at p.spans b).count ≡ i → (first : ℕ) → first ≡ length slots → (end : BlockEnd)
         → end ≡ get_or laid.ends.items b end → EndFacts p laid b first end
     end_facts whole first e end is =

@@ -43,6 +43,7 @@ module _ (fragments : FragmentFacts) (bits : Bits) (items : List Placed) (spans 
       let long = choice-length bits (item_at items k).instr (get_or layout k 0) some in
       ap (λ c. c.len) choice ∙ (long ∙ ap (λ c. form_length bits (item_at items k).instr c.form) (sym choice))
 
+  -- the images of each block end where the call says
   pub code-ends : (m : MovedLists) → AreListsOf bits items (plan_with bits spans items goals) layout m → (b : ℕ) → b < length spans →
       code_len bits items (first_of_block spans b) (span_at spans b).count (span_at spans b).new_base m.starts m.forms
       ≡ (images_end (plan_with bits spans items goals) layout b - (span_at spans b).new_base) % 2 ^ 64

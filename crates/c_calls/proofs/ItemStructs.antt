@@ -47,6 +47,7 @@ takes_few (Err TooShortError) n h = omega arith
 takes_few (Err InvalidError) n h = omega arith
 
 module _ (turn : SweptFacts) where
+  -- before the first item nothing is written
   pub written-start : (bits : Bits) (ip : ℕ) (bytes : List ℕ) (old : List FlatInstr) → WrittenTo bits ip bytes 0 0 old old
   written-start bits ip bytes old = record {
     items = [];
@@ -57,6 +58,7 @@ module _ (turn : SweptFacts) where
     structs = refl;
   }
 
+  -- writing one more item keeps what is known
   pub written-step : (bits : Bits) (ip : ℕ) (bytes : List ℕ) (at count : ℕ) (old now now' : List FlatInstr) (reading : Reading) →
       WrittenTo bits ip bytes at count old now → count < most_items (length old) → IsReadAt bits ip at (drop at bytes) reading →
       TakesSome reading (length (drop at bytes)) → item_len reading ≤ 15 → now' ≡ set now count (flat_reading reading) →
@@ -73,6 +75,7 @@ module _ (turn : SweptFacts) where
             ∙ one_struct w.items item old count w.count_is (omega (arith, lt)));
       }
 
+  -- at the end of the bytes or of the buffer the call has its answer
   pub written-end : (bits : Bits) (ip : ℕ) (bytes : List ℕ) (at count : ℕ) (old now : List FlatInstr) → WrittenTo bits ip bytes at count old now →
       (count < most_items (length old) → length bytes ≤ at) → IsManyIn bits ip bytes old now count at
   written-end bits ip bytes at count old now w ends =

@@ -60,10 +60,12 @@ front_start None place len largest h = absurd h
 front_start (Some gap) place len largest h = ap Ok h
 
 module _ (region : FlatRegion) (blocks : List FlatLive) (is : IsRegion region blocks) (len : ℕ) where
+  -- a request for 0 bytes is refused as empty
   pub none-answer : len ≡ 0 → place_answer (region_of region blocks) len ≡ Err Empty
   unfolding place_answer
   none-answer e = cond-true (len == 0) _ _ (eq-eqb len 0 e)
 
+  -- a request is refused if each element of the array is a live block
   pub many-answer : (len ≡ 0 → ⊥) → region.count ≡ length blocks → place_answer (region_of region blocks) len ≡ Err (TooManyBlocks (length blocks))
   unfolding place_answer
   many-answer some e =
@@ -79,11 +81,13 @@ module _ (region : FlatRegion) (blocks : List FlatLive) (is : IsRegion region bl
       cond-false (len == 0) _ _ (ne_eqb len 0 some)
       ∙ cond-false (length (map live_block_of (live_of region blocks)) == length blocks) _ _ (ne_eqb (length (map live_block_of (live_of region blocks))) (length blocks) more)
 
+  -- a request is refused if no gap is long enough
   pub full-answer : (len ≡ 0 → ⊥) → (region.count ≡ length blocks → ⊥) → IsRegionFull region.base (region.base + region.size) (len_in_units len) (live_of region blocks) →
       place_answer (region_of region blocks) len ≡ Err (Full (len_in_units len) (longest (gaps_of (region_of region blocks))))
   full-answer some few full =
       front some few ∙ ap (λ (g : Option Span). place_in_gap g (len_in_units len) (longest (gaps_of (region_of region blocks)))) full
 
+  -- otherwise the request is answered with the found place
   pub new-answer : (len ≡ 0 → ⊥) → (region.count ≡ length blocks → ⊥) → (index place : ℕ) →
       IsNewPlace region.base (region.base + region.size) (len_in_units len) (live_of region blocks) index place →
       place_answer (region_of region blocks) len ≡ Ok place

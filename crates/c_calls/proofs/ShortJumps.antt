@@ -60,6 +60,7 @@ module _ (facts : JumpFacts) where
   short-bytes bits at target bytes h =
       omega (arith, encoding-length facts.spelled bits at (branch_to (short_code ToJump bits) None target) bytes h, facts.pieces.short_jump-length bits bits target, short-sum bits)
 
+  -- a near jump has at most 5 bytes
   pub near_jump-bytes : (bits : Bits) (at target : ℕ) (bytes : List ℕ) → encoding bits at (branch_to (near_code ToJump bits) None target) ≡ Ok bytes → length bytes ≤ 5
   near_jump-bytes bits at target bytes h =
       omega (arith, encoding-length facts.spelled bits at (branch_to (near_code ToJump bits) None target) bytes h, facts.pieces.near_jump-length bits bits target, near-sum bits)

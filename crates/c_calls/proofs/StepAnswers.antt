@@ -6,6 +6,7 @@ use Rattle.c_calls.specs.declared.stepping.StepCode.{StepCode}
 use Rattle.c_calls.specs.declared.stepping.StepRefusal.{StepRefusal}
 use Rattle.c_calls.specs.Steps.{IsShortStep, IsStepCode}
 
+-- the code of a step is short
 pub step-short : (bits : Option Bits) (ip : ℕ) (bytes : List ℕ) (place : ℕ) (answer : Result StepCode StepRefusal) → IsStepCode bits ip bytes place answer
     → IfOk answer (λ code. IsShortStep code)
 step-short None ip bytes place (Ok code) h = absurd cc

@@ -75,6 +75,7 @@ module _ (bits : Bits) (ip : ℕ) (bytes : List ℕ) (new : ℕ) (list : ItemLis
   count_is : length list.items ≡ length h.items
   count_is = ap length h.items_are ∙ length-map h.items (wrapped_item bits)
 
+  -- more than 65,536 instructions are refused
   pub too_many : (count : ℕ) → count ≡ length list.items → 65536 < count → RefusesCode bits ip bytes new (error.TooMany count)
   too_many count is more = record {
     items = h.items;
@@ -83,6 +84,7 @@ module _ (bits : Bits) (ip : ℕ) (bytes : List ℕ) (new : ℕ) (list : ItemLis
   }
 
   module _ (blocks : BlockFacts) (firsts : FirstFacts) where
+    -- code that ended past the address space is refused
     pub old_end-refused : (count : ℕ) → count ≡ length list.items → count ≤ 65536 → (end : ℕ) → old_pass bits ip bytes ≡ Some end →
         RefusesCode bits ip bytes new (error.Wraps end)
     old_end-refused count is few end e =
@@ -103,6 +105,7 @@ module _ (bits : Bits) (ip : ℕ) (bytes : List ℕ) (new : ℕ) (list : ItemLis
       same : list.items ≡ h.items
       same = h.items_are ∙ kept_same bits ip bytes h.items h.are.end h.are.reads inside
 
+      -- the items are in order
       pub in_order : (at : ℕ) → first_disorder (one_span list.items new) list.items ≡ Some at → ⊥
       in_order at e =
           let D : List Placed → Type 0 = λ xs. first_disorder (one_span xs new) xs ≡ Some at in
@@ -110,6 +113,7 @@ module _ (bits : Bits) (ip : ℕ) (bytes : List ℕ) (new : ℕ) (list : ItemLis
           let none = no_disorder blocks firsts bits ip bytes h.items h.are.end [] h.are.reads new in
           cc
 
+      -- a refusal to move the items refuses the code
       pub is_refused : (why : MoveError) → IsRefused list.bits list.items (one_span list.items new) why → RefusesCode bits ip bytes new why
       is_refused why refused =
           let B : Bits → Type 0 = λ b. IsRefused b list.items (one_span list.items new) why in
@@ -120,6 +124,7 @@ module _ (bits : Bits) (ip : ℕ) (bytes : List ℕ) (new : ℕ) (list : ItemLis
             refused = subst R same (subst B h.bits_are refused);
           }
 
+      -- moved items are the moved code
       pub is_moved : (m : MovedLists) → IsMoved list.bits list.items (one_span list.items new) m →
           IsMovedCode bits ip bytes new (record { code = list; moved = m })
       is_moved m moved =

@@ -39,6 +39,7 @@ module _ (bits : Bits) (ip : ℕ) (code : List ℕ) (place : ℕ) (start : Start
   untaken (Wraps end) h other = absurd h
   untaken (TooFar at target) h other = absurd h
 
+  -- there is no relay if nothing can be taken, for another cause than memory
   pub relay_untaken : (why : DetourError) → IsTakenAnswer bits ip code 5 (Err why) → (r : Result (Option ℕ) DetourError)
       → IfOk r (λ relay. (relay ≡ None) × (why ≡ Memory → ⊥)) → IfOk r (λ relay. IsRelay bits ip code place start relay)
   relay_untaken why h (Ok relay) none = subst (λ (x : Option ℕ). IsRelay bits ip code place start x) (sym none.0) (untaken why h none.1)
@@ -54,6 +55,7 @@ module _ (bits : Bits) (ip : ℕ) (code : List ℕ) (place : ℕ) (start : Start
     unmoved (move_error.Wraps end) h other = (Err (move_error.Wraps end), (h, refl))
     unmoved (move_error.TooFar at target) h other = (Err (move_error.TooFar at target), (h, refl))
 
+    -- nor if what is taken cannot be moved, for another cause than memory
     pub relay_unmoved : (why : MoveError) → IsPlanAnswer bits (block_items bits ip items) (trampoline_plan bits ip items place start) (Err why)
         → (r : Result (Option ℕ) DetourError) → IfOk r (λ relay. (relay ≡ None) × (why ≡ move_error.Memory → ⊥))
         → IfOk r (λ relay. IsRelayBehind bits ip place start (Ok items) relay)

@@ -106,6 +106,7 @@ below_width B32 x = omega arith
 below_width B64 x = omega arith
 
 module _ (laws : DetourLawsBelow) where
+  -- the instructions of the trampoline are placed
   pub block_placed : (bits : Bits) (ip : ℕ) (items : List Placed) → ArePlaced bits items → ArePlaced bits (block_items bits ip items)
   unfolding block_items
   block_placed bits ip items placed =

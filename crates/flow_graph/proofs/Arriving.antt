@@ -195,6 +195,7 @@ module _ (code : CodeBytes) (entries marks order : List ℕ) (gone : Edges) (w :
       follows = follows_again;
     }
 
+  -- arriving at an offset keeps the walk sound
   pub arrives : (first : ℕ) → IsFirstMark code entries p q first →
       IsWalk code entries (marks_after marks q first) (order_after marks order q) (WithEdge gone p q)
   arrives first right =

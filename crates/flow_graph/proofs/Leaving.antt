@@ -175,6 +175,7 @@ module _ (one : OneReadingFacts) (code : CodeBytes) (p : ℕ) (d : Decoded) (rea
         | inr ne ↦ inr (target_is target (p + d.len) (length code.bytes) q t inside ne)
       ]
 
+  -- the exits are the successors of the offset
   pub exits_right : AreExits code p (exits_of code p d)
   exits_right = record {
     next = next_right;

@@ -45,6 +45,7 @@ leader_is_itself marks offset h some = itself (omega arith)
 -- ---- the graph of some marks
 
 module _ (code : CodeBytes) (entries marks : List ℕ) (right : AreMarks code entries marks) where
+  -- the marked offsets make basic blocks
   pub chained : AreChained marks
   chained q h = let f = right.follows q h in (f.0, f.1, right.complete f.0 f.2.reached)
 
@@ -60,6 +61,7 @@ module _ (code : CodeBytes) (entries marks : List ℕ) (right : AreMarks code en
   inside : (q : ℕ) → 0 < get_or marks q 0 → q < length marks
   inside q h = elim (cases_lt q (length marks)) [ inl l ↦ l | inr g ↦ absurd (omega (arith, get_or_past marks q 0 g)) ]
 
+  -- the listed offsets, leaders and flows are the graph
   pub graph_right : (starts leaders : List ℕ) (told flows : Flows) → AreMarkedBelow marks (length marks) starts leaders → MarkedAreTold code marks told →
       AreFlowsOf told starts flows → IsFlowGraphFrom code entries (record { starts = starts; leaders = leaders; flows = flows })
   graph_right starts leaders told flows b t f =

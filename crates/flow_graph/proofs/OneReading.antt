@@ -8,6 +8,7 @@ use Rattle.decoder.specs.OneReading.{OneReadingFacts}
 use Rattle.flow_graph.specs.Control.{CodeBytes, IsReadIn, ReadingLeads, IsSuccessor, EndsAt}
 
 module _ (one : OneReadingFacts) where
+  -- some bytes at an offset have one reading
   pub reading_unique : (bits : Bits) (base offset : ℕ) (bytes : List ℕ) (reading other : Reading) → IsReadAt bits base offset bytes reading →
       IsReadAt bits base offset bytes other → reading ≡ other
   unfolding IsReadAt

@@ -23,9 +23,11 @@ abbrev unmarked_in : List ℕ → ℕ
 unmarked_in marks = count_by (λ m. m == 0) marks
 
 module _ (marks order : List ℕ) (w : IsOrder marks order) (q : ℕ) (within : q < length marks) (m : ℕ) (some : 0 < m) where
+  -- the changed mark is the new one
   pub at_same : (j : ℕ) → j ≡ q → get_or (set marks q m) j 0 ≡ m
   at_same j e = subst (λ x. get_or (set marks q m) x 0 ≡ m) (sym e) (get_or-set_same marks q m 0 within)
 
+  -- the other marks stay
   pub at_other : (j : ℕ) → (j ≡ q → ⊥) → get_or (set marks q m) j 0 ≡ get_or marks j 0
   at_other j ne = get_or-set_other marks q j m 0 ne
 

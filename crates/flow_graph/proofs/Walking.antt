@@ -66,6 +66,7 @@ module _ (code : CodeBytes) (entries : List ℕ) (count : ℕ) (e : count ≡ le
       (p : ℕ) × (p + get_or marks q 0 ≡ q + 1) × FollowsSoFar code (IsTreated code order 0) p q
   follows_first q h = let one = (w.only q (omega arith)).0 in absurd (omega arith)
 
+  -- at the start the entries are walked
   pub starts_walk : IsWalk code entries marks order (IsTreated code order 0)
   starts_walk =
       record {
@@ -291,6 +292,7 @@ module _ (code : CodeBytes) (entries order : List ℕ) (turn p : ℕ) (here : p 
       walk_after code entries (marks_after marks1 target 1) (order_after marks1 order1 target) marks2 order2 (turn + 1) m2 o2
       (goes_to_target target e marks1 order1 more first)
 
+  -- an offset without a target needs no more than its next one
   pub turns_without_target : exits.target ≡ None → (marks1 order1 : List ℕ) → marks1 ≡ next_marks marks p exits →
       order1 ≡ next_order marks order p exits → IsWalk code entries marks1 order1 (IsTreated code order1 (turn + 1))
   turns_without_target none marks1 order1 m1 o1 =
@@ -332,5 +334,6 @@ module _ (code : CodeBytes) (entries marks order : List ℕ) (turn : ℕ) (w : I
         },
       )
 
+  -- at the end the marked offsets are those that are reached
   pub ends_walk : AreMarks code entries marks
   ends_walk = record { len = w.len; reached = marked_reached; complete = all_marked; leads = w.leads; follows = all_follow }

@@ -95,6 +95,7 @@ start bits f lt =
     (alive-cands bits 0 table f) f.modrm refl (λ r. root_entry r number) refl refl
 
 module _ (bits : Bits) (f : Fields) where
+  -- an empty entry of the root holds no row
   pub root-Stop : AtRoot bits f (Some Stop) → codes_holding bits 0 table f ≡ []
   unfolding entry_ok under
   root-Stop p = at-Stop bits f 10 (record { left = p.left; right = p.right; same = p.same })
@@ -104,6 +105,7 @@ module _ (bits : Bits) (f : Fields) where
   nodes256-known i None cs h = cc
   nodes256-known i (Some es) cs h = (es, refl)
 
+  -- the node of a root's entry exists
   pub root-N256-in : (i : ℕ) → AtRoot bits f (Some (N256 i)) → i < length nodes256
   unfolding under
   root-N256-in i p =
@@ -115,28 +117,34 @@ module _ (bits : Bits) (f : Fields) where
   unfolding get_in entry_ok
   under-N256 o es e cs h p q = rw (p, q) at h
 
+  -- an entry of a node behind the root is on its path
   pub root-goes : (i : ℕ) (es : List Next) (e : Next) → AtRoot bits f (Some (N256 i)) → slice_get nodes256 i ≡ Some es → slice_get es f.opcode ≡ Some e
       → OnPath 10 bits f e
   unfolding under
   root-goes i es e p q r =
       record { left = p.left; right = under-N256 (slice_get nodes256 i) es e p.left p.right q r; same = p.same }
 
+  -- no entry of the root is a row
   pub root-Leaf : (c : Code) → AtRoot bits f (Some (Leaf c)) → ⊥
   unfolding entry_ok under
   root-Leaf c p = let h = p.right in cc
 
+  -- no entry of the root is a node of 2
   pub root-N2 : (i : ℕ) → AtRoot bits f (Some (N2 i)) → ⊥
   unfolding entry_ok under
   root-N2 i p = let h = p.right in cc
 
+  -- nor of 3
   pub root-N3 : (i : ℕ) → AtRoot bits f (Some (N3 i)) → ⊥
   unfolding entry_ok under
   root-N3 i p = let h = p.right in cc
 
+  -- nor of 4
   pub root-N4 : (i : ℕ) → AtRoot bits f (Some (N4 i)) → ⊥
   unfolding entry_ok under
   root-N4 i p = let h = p.right in cc
 
+  -- nor of 8
   pub root-N8 : (i : ℕ) → AtRoot bits f (Some (N8 i)) → ⊥
   unfolding entry_ok under
   root-N8 i p = let h = p.right in cc

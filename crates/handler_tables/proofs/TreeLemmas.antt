@@ -121,20 +121,24 @@ pub record OnPath (fuel : ℕ) (bits : Bits) (f : Fields) (e : Next) : Type 0 wh
   pub same : alive left (values bits f) ≡ codes_holding bits 0 table f
 
 module _ (bits : Bits) (f : Fields) where
+  -- the path ends before its fuel does
   pub at-end : (e : Next) → OnPath 0 bits f e → ⊥
   unfolding ok
   at-end e p = let h = p.right in cc
 
+  -- an empty entry on a path holds no row
   pub at-Stop : (fuel : ℕ) → OnPath fuel bits f Stop → codes_holding bits 0 table f ≡ []
   unfolding ok
   at-Stop zero p = absurd (at-end Stop p)
   at-Stop (suc n) p = sym p.same ∙ alive-is_empty p.left (values bits f) p.right
 
+  -- a row on a path is the only one that holds
   pub at-Leaf : (fuel : ℕ) (c : Code) → OnPath fuel bits f (Leaf c) → codes_holding bits 0 table f ≡ c.0 ∷ []
   unfolding ok
   at-Leaf zero c p = absurd (at-end (Leaf c) p)
   at-Leaf (suc n) c p = sym p.same ∙ alive-is_one c.0 p.left (values bits f) p.right
 
+  -- no node of 256 is on a path
   pub at-N256 : (fuel i : ℕ) → OnPath fuel bits f (N256 i) → ⊥
   unfolding ok
   at-N256 zero i p = at-end (N256 i) p
@@ -145,6 +149,7 @@ module _ (bits : Bits) (f : Fields) where
   split-there zero e is p = absurd (at-end e p)
   split-there (suc n) e is p = split-known (ok n bits) bits (node_width e) (split_at e) (entries_at e) p.left (inner-ok n bits e p.left is p.right)
 
+  -- each inner node on a path exists
   pub node-there : (fuel : ℕ) (e : Next) → is_inner e ≡ true → OnPath fuel bits f e → (xs : List Next) × (entries_at e ≡ Some xs)
   node-there zero e is p = absurd (at-end e p)
   node-there (suc n) e is p = node-known (ok n bits) bits (node_width e) (split_at e) (entries_at e) p.left (inner-ok n bits e p.left is p.right)
@@ -164,5 +169,6 @@ module _ (bits : Bits) (f : Fields) where
       let g = node-goes (ok m bits) bits (node_width e) (split_at e) (entries_at e) p.left s es (inner-ok m bits e p.left is p.right) q r f d at in
       rw (← same) (record { left = g.left; right = g.right; same = g.same ∙ p.same })
 
+  -- equal entries are on the same path
   pub on_path : (fuel : ℕ) (e d : Next) → e ≡ d → OnPath fuel bits f e → OnPath fuel bits f d
   on_path fuel e d is p = rw (← is) p

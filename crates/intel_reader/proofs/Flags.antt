@@ -126,6 +126,7 @@ class_number class.Number more = omega arith
 class_number class.Pointer more = omega arith
 class_number class.Address more = omega arith
 
+-- the flags of a mode come before those that follow
 pub mode_number : (bits : Bits) (more : List Bool) → number_of (one_mode bits more) ≡ number_of (one_mode bits []) + 8 * number_of more
 unfolding one_mode number_of
 mode_number B16 more = omega arith

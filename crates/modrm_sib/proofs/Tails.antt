@@ -252,6 +252,7 @@ state_used : (bits : Bits) (row : Row) (s : Spelling) (state : PrefixState) → 
 unfolding state_of state_from front_bytes
 state_used bits row s state h = ap (λ (x : PrefixState). x.used) h
 
+-- the state of a front uses its prefixes, its VEX or escape bytes
 pub used_is : (bits : Bits) (ps : List ℕ) (state : PrefixState) → state ≡ state_from bits ps (length ps + length (lead_bytes state.map state.vex)) state.vex state.map state.opcode → state.used ≡ length ps + length (lead_bytes state.map state.vex)
 unfolding state_from
 used_is bits ps state h = ap (λ (x : PrefixState). x.used) h

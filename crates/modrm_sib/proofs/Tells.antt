@@ -342,6 +342,7 @@ sib-byte : (b : ℕ) → b < 256 → sib_byte (sib_of_byte b) ≡ b
 unfolding sib_of_byte
 sib-byte b h = omega arith
 
+-- the fields of a ModRM byte are in range
 pub modrm-range : (b : ℕ) → b < 256 → modrm_in_range (Some (modrm_of_byte b)) ≡ true
 unfolding modrm_of_byte modrm_in_range
 modrm-range b h =

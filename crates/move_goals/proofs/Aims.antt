@@ -59,6 +59,7 @@ module _ (blocks : BlockFacts) (items : List Placed) (spans : List BlockSpan) (s
           some_bytes (i + suc d) (omega arith),
         )
 
+    -- the items of a block ascend
     pub ascend : Ascend items start (start + (span_at spans b).count)
     ascend = record { each = λ i j from lt below. later i (j - suc i) j (omega (arith, lt)) from below }
 
@@ -80,6 +81,7 @@ module _ (blocks : BlockFacts) (items : List Placed) (spans : List BlockSpan) (s
         ∙ outside_only (is_between start (start + (span_at spans b).count) j) (begins_at items t j)
         (none_below (λ i. is_between start (start + (span_at spans b).count) i && begins_at items t i) (length items) none j lt))
 
+    -- the search in the block finds the goal of a target
     pub goal_is : goal_between items start (start + (span_at spans b).count) t ≡ goal_of_target spans items k t
     unfolding goal_of_target
     goal_is =
@@ -91,5 +93,6 @@ module _ (blocks : BlockFacts) (items : List Placed) (spans : List BlockSpan) (s
     by_target None = refl
     by_target (Some t) = goal_is k from below t
 
+    -- and so the goal of the item's own target
     pub goal_at_is : goal_in items start (start + (span_at spans b).count) (target_of (item_at items k).instr) ≡ goal_at spans items k
     goal_at_is = by_target (target_of (item_at items k).instr)

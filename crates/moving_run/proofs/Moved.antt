@@ -45,11 +45,13 @@ module _ (blocks : BlockFacts) (bits : Bits) (words : List BlockWords) (bytes : 
     pub items_are : code.items.items ≡ all_placed words is.items
     items_are = is.kept inside ∙ first_items-few (all_placed words is.items) few_items
 
+    -- the spans are those of the items
     pub code_spans : length words ≤ 16 → AreSpansOf code.items.items code.spans.items
     code_spans few_words =
         let whole = spans_of bits words bytes is.items is.swept few_words in
         subst (λ (items : List Placed). AreSpansOf items code.spans.items) (sym items_are) (rw is.spans_are whole)
 
+    -- the items are placed
     pub code_placed : ArePlaced bits code.items.items
     code_placed = subst (λ (items : List Placed). ArePlaced bits items) (sym items_are) (are_placed bits words bytes is.items is.swept)
 

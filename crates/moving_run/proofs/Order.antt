@@ -216,6 +216,7 @@ module _ (s : BlockSpan) (ss : List BlockSpan) (block others : List Placed) (cou
   unfolding block_old_end
   end_empty none = cond-true (s.count == 0) _ _ (eq-eqb s.count 0 none)
 
+  -- the old end of a block is the end of its last item
   pub end_last : (n : ℕ) → s.count ≡ suc n → block_old_end (s ∷ ss) (block ++ others) 0 ≡ old_end (item_at block n)
   unfolding block_old_end
   end_last n some =

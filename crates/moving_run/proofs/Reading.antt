@@ -69,6 +69,7 @@ pub record BlockBegun (bits : Bits) (base : ℕ) (bytes : List ℕ) (at count : 
   pub kept : (0 < length bytes → base + length bytes ≤ 2 ^ 64) → after ≡ first_items (before ++ placed_in base items)
 
 module _ (turn : SweptFacts) where
+  -- before the first byte of a block nothing is read
   pub block-start : (bits : Bits) (base : ℕ) (bytes : List ℕ) (before : List Placed) → length before ≤ 65536 → BlockBegun bits base bytes 0 0 before before
   block-start bits base bytes before room = record {
     items = [];

@@ -80,6 +80,7 @@ module _ (one : OneSweepFacts) where
       stop
       stop'
 
+  -- a block stops at one place for one cause
   pub stops_unique : (bits : Bits) (base : ℕ) (bytes : List ℕ) (at at' : ℕ) (e f : DecodeError) → BlockStopsAt bits base bytes at e → BlockStopsAt bits base bytes at' f →
       (at ≡ at') × (e ≡ f)
   stops_unique bits base bytes at at' e f h k =

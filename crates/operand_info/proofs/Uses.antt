@@ -30,6 +30,7 @@ uses_of-le (Imm x) access = omega arith
 uses_of-le (Near x) access = omega arith
 uses_of-le (Far s o) access = omega arith
 
+-- an operand uses at most two registers
 pub uses_at-le : (i : Instr) (n : ℕ) → length (uses_at i n) ≤ 2
 unfolding uses_at
 uses_at-le i n = uses_of-le _ _

@@ -147,14 +147,17 @@ address_small bits asize m = form_small (form_of m.base m.index) bits asize m
 
 -- ---- the plain ModRM by the row's rule
 
+-- a row without ModRM has none in the plain spelling
 pub modrm_none : (bits : Bits) (row : Row) (i : Instr) → row.modrm ≡ NoModRm → plain_modrm bits row i ≡ None
 unfolding plain_modrm
 modrm_none bits row i e = rw e refl
 
+-- a row with any ModRM has the number and the fields of its operands
 pub modrm_any : (bits : Bits) (row : Row) (i : Instr) → row.modrm ≡ AnyModRm → plain_modrm bits row i ≡ Some (modrm_with (number_asked_of number_in_reg row i % 8) (fields_of bits row i))
 unfolding plain_modrm
 modrm_any bits row i e = rw e refl
 
+-- a row with a digit has it in ModRM.reg
 pub modrm_digit : (bits : Bits) (row : Row) (i : Instr) (d : ℕ) → row.modrm ≡ Digit d → plain_modrm bits row i ≡ Some (modrm_with d (fields_of bits row i))
 unfolding plain_modrm
 modrm_digit bits row i d e = rw e refl
@@ -163,6 +166,7 @@ modrm_digit bits row i d e = rw e refl
 abbrev pub fixed_modrm : Row → Instr → ℕ → ModRm
 fixed_modrm row i b = record { mode3 = b / 64; reg = b / 8 % 8; rm = fixed_rm row i b }
 
+-- a row with a fixed byte has that byte
 pub modrm_fixed : (bits : Bits) (row : Row) (i : Instr) (b : ℕ) → row.modrm ≡ FixedByte b → plain_modrm bits row i ≡ Some (fixed_modrm row i b)
 unfolding plain_modrm
 modrm_fixed bits row i b e = rw e refl

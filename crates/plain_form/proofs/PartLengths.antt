@@ -7,6 +7,7 @@ use Rattle.instruction_parts.specs.declared.spelling.Spelling.{Spelling}
 use Rattle.instruction_parts.specs.Bytes.{bytes_of, front_bytes, tail_bytes, modrm_bytes, sib_bytes}
 use Rattle.plain_spelling.specs.PlainTail.{byte_count}
 
+-- a ModRM is one byte
 pub modrm_count : (m : Option ModRm) → length (modrm_bytes m) ≡ byte_count (is_some m)
 modrm_count None = refl
 modrm_count (Some m) = refl

@@ -112,6 +112,7 @@ mode_by bits ip row i g any =
     let p = register_in_rm bits row i k.0 r.0 g.is_sound g.is_writable.rule g.four below (any_mode_reads how k.2) r.1 in
     mode_of_some (plain_modrm bits row i) p.modrm p.is_plain p.mode
 
+-- mod of the plain ModRM suits the row
 pub mode_plain : (bits : Bits) (ip : ℕ) (row : Row) (i : Instr) → Given bits ip row i → mode_is_register row (plain_modrm bits row i) ≡ true
 unfolding mode_is_register
 mode_plain bits ip row i g = elim (cases_Bool (reads_mode row)) [

@@ -96,6 +96,7 @@ ranges_behind s h =
       imm = (and_parts disp imm h5).1;
     }
 
+-- the ModRM of a spelling in range is in range
 pub modrm_range : (s : Spelling) → fields_in_range s ≡ true → modrm_in_range s.modrm ≡ true
 modrm_range s h = (ranges_behind s h).modrm
 

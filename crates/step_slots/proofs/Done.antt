@@ -167,6 +167,7 @@ module _ (bits : Bits) (item : Placed) (place : ℕ) (m : MovedLists) (moved : I
       short (image_length p moved.layout 0) (bytes_at bits items p moved.layout 0) _ stands.bytes
 
   module _ (targets : TargetFacts) (pieces : PieceFacts) (facts : MovedFacts) where
+    -- a step block begins with the encoded first instruction of the image
     pub done-at : IsDoneAt bits item place m (done_length bits item.instr (step_form m))
     unfolding fragment_at
     done-at =

@@ -44,15 +44,18 @@ answer-not_empty state len some e =
       ]
     ]
 
+-- the reserved length is that of the last forms
 pub reserved-is : (bits : Bits) (item : Placed) (region : RegionState) (base : ℕ) → base ≡ region.base → (items : List Placed) → items ≡ step_items bits item
     → (len : ℕ) → len ≡ last_len bits items base → len ≡ reserved_room bits region.base item
 reserved-is bits item region base at items are len is =
     is ∙ (ap (λ (xs : List Placed). last_len bits xs base) are ∙ ap (λ (b : ℕ). last_len bits (step_items bits item) b) at)
 
+-- the answer for the reserved length is the one that was given
 pub answer-is : (region : RegionState) (len reserved_len : ℕ) → len ≡ reserved_len → (answer told : Result ℕ PlaceError) → answer ≡ place_answer region len
     → answer ≡ told → place_answer region reserved_len ≡ told
 answer-is region len reserved_len same answer told is e = sym (ap (place_answer region) same) ∙ (sym is ∙ e)
 
+-- the answer of the mover is one for the items of the step
 pub outside-is : (bits : Bits) (given items : List Placed) → given ≡ items → (place : ℕ) (answer told : Result MovedLists MoveError) → answer ≡ told
     → IsOutsideAnswer bits given place answer → IsOutsideAnswer bits items place told
 outside-is bits given items same place answer told is h =
@@ -60,15 +63,18 @@ outside-is bits given items same place answer told is h =
     (subst (λ (r : Result MovedLists MoveError). IsOutsideAnswer bits given place r) is h)
 
 module _ (laws : StepLawsBelow) where
+  -- the items of a step are placed
   pub items-placed : (bits : Bits) (item : Placed) → IsPlaced bits item → (items : List Placed) → items ≡ step_items bits item → ArePlaced bits items
   items-placed bits item spelled items are = subst (ArePlaced bits) (sym are) (step-placed laws bits item spelled)
 
   module _ (bits : Bits) (item : Placed) (spelled : IsPlaced bits item) (region : RegionState) where
+    -- a refusal for want of length is one of a place
     pub length-refusal : (why : PlaceError) → place_answer region (reserved_room bits region.base item) ≡ Err why → IsOfLength why
     length-refusal place_error.Empty e = answer-not_empty region (reserved_room bits region.base item) (reserved-some laws bits item spelled region.base) e
     length-refusal (place_error.TooManyBlocks max) e = tt
     length-refusal (place_error.Full len largest) e = tt
 
+    -- without a place nothing is stepped
     pub no-place : (why : PlaceError) (len : ℕ) → len ≡ len_in_units (reserved_room bits region.base item) → place_answer region (reserved_room bits region.base item) ≡ Err why
         → (new : RegionState) → new ≡ region → IsBlockStepped bits region item (Err (place_refusal_of why len)) new
     no-place place_error.Empty len l e new same = same
@@ -77,6 +83,7 @@ module _ (laws : StepLawsBelow) where
 
     module _ (inside : region.base + region.size ≤ 2 ^ width bits) (sound : IsSound region) (units : AreInUnits region) (place : ℕ)
         (e : place_answer region (reserved_room bits region.base item) ≡ Ok place) where
+      -- the only refusals of the mover are memory and reach
       pub reach-refusal : (why : MoveError) → IsOutsideAnswer bits (step_items bits item) place (Err why) → IsOfReach why
       reach-refusal Memory h = tt
       reach-refusal (TooMany n) h = let many = h.0 in absurd (omega (arith, many))
@@ -84,6 +91,7 @@ module _ (laws : StepLawsBelow) where
       reach-refusal (Wraps end) h = never-passes laws bits item spelled region inside sound units place e end h.1
       reach-refusal (TooFar at target) h = tt
 
+      -- an instruction that is not moved is not stepped
       pub not-moved : (why : MoveError) → IsOutsideAnswer bits (step_items bits item) place (Err why) → (new : RegionState) → new ≡ region
           → IsBlockStepped bits region item (Err (move_refusal_of why)) new
       not-moved Memory h new same = same
@@ -93,6 +101,7 @@ module _ (laws : StepLawsBelow) where
       not-moved (TooFar at target) h new same =
           ((place, (e, only-first laws bits item spelled region inside sound units place e at target h.1)), same)
 
+      -- a moved block fits its reserved length
       pub moved-fits : (m : MovedLists) → IsOutsideAnswer bits (step_items bits item) place (Ok m) → length m.bytes ≤ len_in_units (reserved_room bits region.base item)
       moved-fits m h = block-fits laws bits item spelled region inside sound units place e m h.1
 
@@ -110,6 +119,7 @@ module _ (laws : StepLawsBelow) where
       given-back now is new same =
           same ∙ (ap (λ (r : RegionState). after_release r place) is ∙ (laws.regions.restores region (reserved_room bits region.base item) place sound e).blocks)
 
+      -- a moved block in its place is the step
       pub moved-steps : (m : MovedLists) → IsOutsideAnswer bits (step_items bits item) place (Ok m) → (new : RegionState)
           → new ≡ after_fill (after_place region (reserved_room bits region.base item)) place m.bytes → IsBlockStepped bits region item (Ok place) new
       moved-steps m h new is = (e, (m.bytes, ((m, (h.1, refl)), is)))

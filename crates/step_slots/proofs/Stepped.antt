@@ -52,6 +52,7 @@ one_block bits items place = refl
 module _ (laws : StepLawsBelow) where
   -- ---- the items
 
+  -- an instruction and its jump back are placed
   pub step-placed : (bits : Bits) (item : Placed) → IsPlaced bits item → ArePlaced bits (step_items bits item)
   step-placed bits item placed zero lt = placed
   step-placed bits item placed (suc zero) lt =
@@ -59,9 +60,11 @@ module _ (laws : StepLawsBelow) where
   step-placed bits item placed (suc (suc k)) lt = absurd (omega arith)
 
   module _ (bits : Bits) (item : Placed) (placed : IsPlaced bits item) where
+    -- some bytes are reserved
     pub reserved-some : (base : ℕ) → 0 < reserved_room bits base item
     reserved-some base = laws.last.last-some bits (step_items bits item) base (step-placed bits item placed) (omega arith) (omega arith)
 
+    -- at most 53 bytes are reserved
     pub reserved-short : (base : ℕ) → reserved_room bits base item ≤ 53
     reserved-short base = laws.last.last-bound bits (step_items bits item) base (step-placed bits item placed) (omega arith)
 

@@ -25,9 +25,11 @@ module _ (laws : StepLawsBelow) (bits : Bits) (item : Placed) (spelled : IsPlace
     stood-within : length m.bytes ≤ reserved_room bits place item
     stood-within = laws.last.moved-within bits (step_items bits item) place (step-placed laws bits item spelled) (omega arith) m moved
 
+    -- a stood block has at most 53 bytes
     pub stood-short : length m.bytes ≤ 53
     stood-short = omega (arith, stood-within, reserved-short laws bits item spelled place)
 
+    -- a stood block fits the reserved length
     pub stood-fits : FitsReserved bits item place m.bytes
     stood-fits base before units =
         let same : reserved_room bits place item ≡ reserved_room bits base item = laws.last.last-moves bits (step_items bits item) base place before units in

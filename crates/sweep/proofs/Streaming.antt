@@ -130,6 +130,7 @@ module _ (join : TextPieceFacts) (bits : Bits) (base : ℕ) (lines : Lines) (sta
   length_now =
       omega (arith, length-append s.seen new, length-take (code_limit - length s.seen) f.piece, s.reaches, s.few, f.count_is, end_is)
 
+  -- what fills the window is below the limit
   pub fills_few : at + end ≤ code_limit
   fills_few = omega (arith, s.reaches, s.few, end_is)
 
@@ -159,6 +160,7 @@ module _ (join : TextPieceFacts) (bits : Bits) (base : ℕ) (lines : Lines) (sta
   all_taken : start ≡ with_front taken left'
   all_taken = s.read ∙ (ap (with_front s.seen) f.read ∙ join.with_front-append left' s.seen f.piece)
 
+  -- the stream has seen what it read
   pub sees : Sees start left' now
   sees = record {
     taken = taken;
@@ -182,6 +184,7 @@ module _ (join : TextPieceFacts) (bits : Bits) (base : ℕ) (lines : Lines) (sta
   no_more : n ≡ 0 → now ≡ taken
   no_more none = ap (λ xs. s.seen ++ xs) (take_all (code_limit - length s.seen) f.piece (omega (arith, f.count_is)))
 
+  -- a pull of nothing ends the source
   pub reads_all : n ≡ 0 → ReadsAll code_limit start left' now
   reads_all none = record {
     read = all_taken ∙ ap (λ xs. with_front xs left') (sym (no_more none));

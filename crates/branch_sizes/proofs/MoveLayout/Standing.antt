@@ -15,12 +15,15 @@ module _ (blocks : BlockFacts) (totals : TotalFacts) (p : BlockPlan) (w : IsWell
 
   -- item k, which is item i of block b
   module _ (i k : ℕ) (bl : b < length p.spans) (il : i < (span_at p.spans b).count) (e : k ≡ first_of_block p.spans b + i) where
+    -- the item is one of the plan
     pub item-below : k < length p.items
     item-below = omega (arith, e, blocks.item_below p.spans b i bl il, w.counts)
 
+    -- the item belongs to the block
     pub block-is : block_number p.spans k ≡ b
     block-is = blocks.block_at p.spans b k bl (omega (arith, e)) (omega (arith, e))
 
+    -- the place of an item is the block's base plus the lengths of the images before it
     pub place-is : place p layout k ≡ (span_at p.spans b).new_base
         + (total (image_length p layout) k - total (image_length p layout) (first_of_block p.spans b))
     place-is = ap (λ n. (span_at p.spans n).new_base

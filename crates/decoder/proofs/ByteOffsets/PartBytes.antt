@@ -99,6 +99,7 @@ module _ (bits : Bits) (row : Row) (s : Spelling) (bytes rest : List ℕ) (f : F
       ∙ within bytes before I rest _ (immediates_before size row n) (immediate_bytes size (kind_at row n)) (whole ∙ simp append_assoc) at
       (omega (arith, all, immediates-inside size row n lt))
 
+  -- each part holds the bytes of the spelling that belong to it
   pub parts-hold : HoldParts bits row s bytes (offsets_of bits row s)
   unfolding offsets_by
   parts-hold = record {

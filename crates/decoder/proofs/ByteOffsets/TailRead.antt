@@ -152,6 +152,7 @@ unfolding lead_bytes
 lead_same map None = refl
 lead_same map (Some v) = refl
 
+-- the front of a spelling uses its prefixes, its VEX or escape bytes
 pub used_is : (bits : Bits) (row : Row) (s : Spelling) → (state_of bits row s).used ≡ length s.prefixes.items + length (lead_bytes row.map s.vex)
 unfolding state_of state_from front_bytes
 used_is bits row s = length-append s.prefixes.items (lead_bytes row.map s.vex)

@@ -133,6 +133,7 @@ module _ (laws : HookLawsBelow) (bits : Bits) (slot : ℕ) (region : RegionState
         subst (λ (r : RegionState). AreHooksKept bits slot r after more) (sym is_now)
         (subst (λ (xs : List Hook). AreHooksKept bits slot now xs more) (sym same) on_now)
 
+    -- an install keeps the maximum number of blocks
     pub install-max : new.max_blocks ≡ region.max_blocks
     unfolding now
     install-max = ap (λ (r : RegionState). r.max_blocks) is_now
@@ -152,9 +153,11 @@ module _ (laws : HookLawsBelow) (bits : Bits) (slot : ℕ) (region : RegionState
         live = left;
       }
 
+  -- a hook stands at each place that can be released
   pub remove-stands : (place : ℕ) → release_answer region place ≡ Ok tt → StandsAt hook_place place hooks
   remove-stands place e = live.stands place e
 
+  -- after a removal the other hooks are kept
   pub remove-made : (place : ℕ) (new : RegionState) → new ≡ after_release region place → (left : List Hook) → left ≡ without_hook place hooks
       → (more : ℕ) → more ≡ room → AreHooksKept bits slot new left more
   remove-made place new is left same more full =
@@ -171,6 +174,7 @@ module _ (laws : HookLawsBelow) (bits : Bits) (slot : ℕ) (region : RegionState
   -- a removal that is refused
   module _ (place : ℕ) (why : NotTaken) (e : release_answer region place ≡ Err why) (now : HooksState)
       (seen : record { bits = bits; slot = slot; region = region; hooks = hooks } ≡ now) where
+    -- a refused release is a refused removal
     pub refused-answer : Err why ≡ remove_answer now place
     refused-answer =
         let P : HooksState → Type 0 = λ s. Err why ≡ remove_answer s place in
@@ -178,6 +182,7 @@ module _ (laws : HookLawsBelow) (bits : Bits) (slot : ℕ) (region : RegionState
         let wrapped_why : NotTaken → Result Hook NotTaken = λ w. Err w in
         subst P seen (subst Q (sym (remove-none place why e)) (ap wrapped_why (laws.fills.release-why region place why e)))
 
+    -- a refused removal changes nothing
     pub refused-state : (new : RegionState) → new ≡ after_release region place → record { bits = bits; slot = slot; region = new; hooks = hooks } ≡ after_removal now place
     refused-state new is =
         let with_region : RegionState → HooksState = λ (r : RegionState). record { bits = bits; slot = slot; region = r; hooks = hooks } in
@@ -263,6 +268,7 @@ made-kept laws bits base size slot none =
     kept-made laws bits base size slot none (empty_region base size (size / slot)) refl [] refl (size / slot) (omega arith)
 
 module _ (laws : HookLawsBelow) (old : HooksState) (kept : AreKeptIn old) where
+  -- a removal keeps the hooks
   pub removed-kept : (place : ℕ) → AreKeptIn (after_removal old place)
   unfolding after_release
   removed-kept place = remove-kept laws old.bits old.slot old.region old.hooks old.region.max_blocks kept place
@@ -285,6 +291,7 @@ module _ (laws : HookLawsBelow) (old : HooksState) (kept : AreKeptIn old) where
     after-kept (Err (TooLong len size)) region left hooks same = unchanged region left.1 hooks same
     after-kept (Err Memory) region left hooks same = unchanged region left hooks same
 
+    -- an install keeps the hooks
     pub installed-kept : (answer : Result ℕ InstallError) (new : HooksState) → IsInstalled old ip code to start answer new → AreKeptIn new
     installed-kept answer new done =
         let here = after-kept done.made new.region done.region new.hooks done.hooks in

@@ -95,6 +95,7 @@ module _ (base slot : ℕ) where
         | inr behind ↦ rw behind (slots.0, slots-with block live len i at slots.1)
       ]
 
+  -- without one of them the blocks still lie in slots
   pub slots-without : (place : ℕ) (live : List LiveBlock) → AreSlots base slot live → AreSlots base slot (filter (λ b. not (nat_eq b.place place)) live)
   slots-without place [] slots = tt
   slots-without place (block ∷ live) slots =

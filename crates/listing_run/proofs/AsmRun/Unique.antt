@@ -80,6 +80,7 @@ module _ (counted : length table ≡ ROWS) (bits : Bits) where
 
   -- ---- lines
 
+  -- lines have one code
   pub lines_unique : (ip : ℕ) (lines : List (List ℕ)) (xs ys : List ℕ) → IsCodeOfLines bits ip lines xs → IsCodeOfLines bits ip lines ys → xs ≡ ys
   lines_unique ip [] xs ys h k = h ∙ sym k
   lines_unique ip (line ∷ lines) xs ys h k =

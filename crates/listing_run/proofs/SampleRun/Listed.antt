@@ -27,6 +27,7 @@ listing-more (x ∷ items) item =
     )
 
 module _ (turn : SweptFacts) where
+  -- before the first byte the listing has begun
   pub listed-start : (bytes : List ℕ) → Listed bytes 0 0
   listed-start bytes = record { items = []; swept = turn.swept-start B64 sample_base bytes; text_is = refl; small = omega arith }
 

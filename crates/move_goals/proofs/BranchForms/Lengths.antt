@@ -31,6 +31,7 @@ form_size bits i b FarBridge = bridge_inner bits b i.asize + plain_length bits (
 module _ (laws : FormLawsBelow) where
   -- ---- single instructions
 
+  -- the length of a branch does not depend on its target
   pub branch_to-length : (bits : Bits) (code : ℕ) (asize : Option Bits) (t : ℕ) → plain_length bits (branch_to code asize t) ≡ plain_length bits (branch_to code asize 0)
   unfolding branch_to with_target aimed_operand
   branch_to-length bits code asize t = laws.targets.with_target-length bits t (branch_to code asize 0)
@@ -39,10 +40,12 @@ module _ (laws : FormLawsBelow) where
   unfolding through_slot with_target aimed_operand aimed_base
   slot-length bits code slot = laws.targets.with_target-length bits slot (through_slot code 0)
 
+  -- the length of a short branch does not depend on its target
   pub short-length : (bits : Bits) (b : RelativeBranch) (asize : Option Bits) (t : ℕ) → plain_length bits (short_branch b asize t) ≡ plain_length bits (short_branch b asize 0)
   unfolding short_branch
   short-length bits b asize t = branch_to-length bits (short_code b.action b.size) (counter_size b.action asize) t
 
+  -- the length of a skip does not depend on its target
   pub skip-length : (bits : Bits) (t : ℕ) → plain_length bits (skip bits t) ≡ plain_length bits (skip bits 0)
   unfolding skip
   skip-length bits t = branch_to-length bits (short_code Jump bits) None t
@@ -103,6 +106,7 @@ module _ (laws : FormLawsBelow) where
   unfolding form_length image_of
   other-length bits i form none = ap (λ b. pieces_length bits (image_by bits i b form 0 0 0)) none ∙ omega (arith, laws.targets.with_target-length bits 0 i)
 
+  -- the length of a branch in a form is the computed size
   pub branch-length : (bits : Bits) (i : Instr) (b : RelativeBranch) (form : Form) → branch_of i ≡ Some b → form_length bits i form ≡ form_size bits i b form
   unfolding form_length image_of
   branch-length bits i b form some = ap (λ x. pieces_length bits (image_by bits i x form 0 0 0)) some ∙ image-length bits i b form 0 0 0

@@ -93,9 +93,11 @@ module _ (laws : FormLawsBelow) where
   unfolding is_fit_row
   fit-by i row b at h = ap (is_fit_by row) (sym (branch-in-row i row b at h)) ∙ laws.rows is_fit_row each-fit i.code.0 row at
 
+  -- each branch of the table is in the range of its action
   pub branch-range : (i : Instr) (row : Row) (b : RelativeBranch) → slice_get table i.code.0 ≡ Some row → branch_of i ≡ Some b → in_range b.action b.is_short ≡ true
   branch-range i row b at h = (and_parts (in_range b.action b.is_short) (is_sized row b.size) (fit-by i row b at h)).0
 
+  -- each branch of the table exists with its operand size
   pub branch-pair : (bits : Bits) (i : Instr) (row : Row) (b : RelativeBranch) → slice_get table i.code.0 ≡ Some row → branch_of i ≡ Some b → exists_in bits row ≡ true → is_pair bits b.size ≡ true
   branch-pair bits i row b at h stands =
       sized row b.size bits (and_parts (in_range b.action b.is_short) (is_sized row b.size) (fit-by i row b at h)).1 stands

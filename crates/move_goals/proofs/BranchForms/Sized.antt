@@ -63,14 +63,17 @@ near-size bits (Count n) s size range = count-near bits size n
 -- ---- forms
 
 module _ (bits : Bits) (i : Instr) where
+  -- the size of the present form is the plain length
   pub itself-form : (b : RelativeBranch) → form_size bits i b Itself ≡ plain_length bits i
   unfolding form_size
   itself-form b = refl
 
+  -- the size of the short form is that of the short branch
   pub short-form : (b : RelativeBranch) → in_range b.action b.is_short ≡ true → form_size bits i b Short ≡ short_bytes bits b.action b.size (counter_size b.action i.asize)
   unfolding form_size
   short-form b range = short_branch-size bits i.asize b.action b.is_short b.size range
 
+  -- the size of the near form is that of the near branch
   pub near-form : (b : RelativeBranch) → in_range b.action b.is_short ≡ true → form_size bits i b Near ≡ near_bytes bits b.action b.size
   unfolding form_size
   near-form b range = near-size bits b.action b.is_short b.size range
@@ -79,11 +82,13 @@ module _ (bits : Bits) (i : Instr) where
   unfolding bridge_inner
   inner-size b range = omega (arith, short_branch-size bits i.asize b.action b.is_short b.size range, skip-size bits)
 
+  -- a bridge has the short branch, a skip and the near jump
   pub bridge-form : (b : RelativeBranch) → in_range b.action b.is_short ≡ true
       → form_size bits i b Bridge ≡ short_bytes bits b.action b.size (counter_size b.action i.asize) + 2 + near_bytes bits Jump b.size
   unfolding form_size bridge_jump
   bridge-form b range = omega (arith, inner-size b range, near_jump-length bits b.size 0)
 
+  -- a far bridge has the short branch, a skip and the jump through a slot
   pub far_bridge-form : (b : RelativeBranch) → in_range b.action b.is_short ≡ true
       → form_size bits i b FarBridge ≡ short_bytes bits b.action b.size (counter_size b.action i.asize) + 2 + slot_bytes bits
   unfolding form_size

@@ -129,6 +129,7 @@ pub record Begun (range : Range) (base : ℕ) (bytes : List ℕ) (at number : �
   pub come : HasCome (empty_slots range) (slotted_in range.bits base items) refused slots
 
 module _ (turn : SweptFacts) where
+  -- before the first instruction the slots are empty
   pub begun-start : (range : Range) (base : ℕ) (bytes : List ℕ) (slots : SlotState) → slots ≡ empty_slots range → Begun range base bytes 0 0 None slots
   begun-start range base bytes slots empty = record {
     items = [];

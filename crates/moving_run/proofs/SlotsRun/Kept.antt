@@ -78,6 +78,7 @@ All-at P [] ys y all = All-head P y ys all
 All-at P (x ∷ xs) ys y all = All-at P xs ys y (All-tail P x (xs ++ y ∷ ys) all)
 
 module _ (kept : LiveSlotFacts) where
+  -- empty slots have room
   pub room-empty : (range : Range) → IsRange range → IsRoom (empty_slots range)
   room-empty range is = record {
     kept = kept.kept-made range.bits range.base range.size 65536 (range-fits range is) (empty_slots range).region refl [] refl 65536 (omega arith);
@@ -98,6 +99,7 @@ module _ (kept : LiveSlotFacts) where
             let small = room.small in omega (arith, same, small);
       }
 
+  -- slots with room keep it
   pub roomy-slotted : (bits : Bits) (old new : SlotState) (items : List Placed) → IsRoomy bits old →
       All (IsPlaced bits) items → AreSlotted old items new → IsRoomy bits new
   roomy-slotted bits old new [] roomy after_place slotted = subst (IsRoomy bits) (sym slotted) roomy

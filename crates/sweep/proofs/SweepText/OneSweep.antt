@@ -11,6 +11,7 @@ begin_each_other a b [] n e f = sym (e ∙ append-nil a)
 begin_each_other a b (x ∷ m) n e f = absurd (omega (arith, ap length e, ap length f, length-append a (x ∷ m), length-append b n))
 
 module _ (one : OneReadingFacts) where
+  -- some bytes at an offset have one reading
   pub reading_unique : (bits : Bits) (base offset : ℕ) (bytes : List ℕ) (reading other : Reading) → IsReadAt bits base offset bytes reading →
       IsReadAt bits base offset bytes other → reading ≡ other
   unfolding IsReadAt
