@@ -4,8 +4,8 @@
 #
 #     bench/counts.sh FILE [BITS]
 #
-# FILE is raw code, of which the first 500,000 bytes are used (COUNTED=n for another number). Builds are kept in $BENCH_FOLDER, or
-# else in a folder of $TMPDIR, and made if they are missing.
+# FILE is raw code; its first 500,000 bytes are used (COUNTED=n for another number). Builds are kept in $BENCH_FOLDER, or in a folder of
+# $TMPDIR if it is not set, and made if they are missing.
 set -euo pipefail
 
 if [ $# -lt 1 ] || [ $# -gt 2 ]; then

@@ -337,9 +337,9 @@ packages() {
         || die_with "$work/packages.log" "packages: packaging/build.sh"
 }
 if ! command -v dpkg-shlibdeps >/dev/null; then
-    say "packages: no dpkg-dev here, none are made"
+    say "packages: skipped: dpkg-dev is not installed"
 elif ! git -C "$top" diff --quiet HEAD -- crates crates.txt capi packaging 2>/dev/null; then
-    say "packages: this is no clone, or has changes that are not committed, so none are made: they say of which commit they are"
+    say "packages: skipped, since packages name their commit: this is no clone, or it has uncommitted changes"
 else
     packages "$work/packages"
     grep -Ev '^[0-9a-f]{64} |^/' "$work/packages.log" | sed 's/^/packages: /'

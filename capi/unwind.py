@@ -3,14 +3,14 @@
 
     unwind.py OBJECT OUT
 
-OBJECT is a relocatable ELF file for x86-64, and OUT the same with an .eh_frame; no byte of the code is changed. Where OBJECT has an
-.eh_frame, OUT is OBJECT. Where it has a .debug_frame, as from the kit's compiler `rattle`, its entries are taken. Those of other
-functions, from `llvm` of all, are found from the code: each function is followed from its entry, and at each instruction it is known where the stack
-pointer stands below the caller's frame, and where the registers lie that a call keeps. The instructions are read by the library itself,
-which the environment's FEDDURZAI_LIBRARY names.
+OBJECT is a relocatable ELF file for x86-64. OUT is the same file with an .eh_frame; no byte of the code changes. If OBJECT has an .eh_frame, OUT
+equals OBJECT. If it has a .debug_frame, as from the kit's compiler `rattle`, its entries are used. The entries of all other functions (with the
+compiler `llvm`, of all functions) are computed from the code: the script follows each function from its entry, and tracks the distance of the stack
+pointer from the caller's frame and the places of the callee-saved registers. It decodes with the library itself, which FEDDURZAI_LIBRARY in the
+environment names.
 
-A function that this cannot follow gets no entry, and is named on standard error: a backtrace ends there. What is said in the last line
-counts the functions. The status is 0 where OUT is written, and else 1.
+A function that it cannot follow gets no entry and is named on standard error: a backtrace ends there. The last line counts the functions. The
+status is 0 if OUT was written, and 1 otherwise.
 """
 
 import bisect

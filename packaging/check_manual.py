@@ -3,15 +3,15 @@
 
     check_manual.py PROGRAM
 
-PROGRAM is the program, under any name. These have to agree:
+PROGRAM is the program, under any name. The script checks that these agree:
 
   - the commands and their words: in the page's synopsis, as the titles in its section COMMANDS, and in PROGRAM --help
   - the statuses and the line of each on standard error: in the page's section EXIT STATUS, and in docs/program.md
   - the lines that the page's examples show, and what PROGRAM writes there
   - the words that the completion offers, and those that PROGRAM --help has
-  - the page and man, which has no warning of it; where there is no man, that is said, and not checked
+  - the page and man, which formats it without a warning; skipped, with a note, if man is not installed
 
-The status is 0 where all agree, and else 1, with a line for each difference.
+The status is 0 if all agree, and 1 otherwise, with a line for each difference.
 """
 
 import os

@@ -1,13 +1,13 @@
 #!/usr/bin/env python3
-"""Checks a wheel by the tags of its name: that its libraries run on every system that these stand for.
+"""Checks that the libraries of a wheel run on every system that the tags in its name promise.
 
     check_wheel.py WHEEL
 
-Each manylinux tag has a version of glibc. No symbol that a library of the wheel takes may have come with a later one, and no library
-but those of glibc may be needed. The wheel's file WHEEL has to have the tags of its name, and RECORD the sum of each file. It wants
-objdump of binutils. Where auditwheel is there, what it says is printed.
+Each manylinux tag names a version of glibc. No library of the wheel may import a symbol of a later version, or need any library outside glibc. The
+wheel's file WHEEL must have the tags of its name, and RECORD the hash of each file. Required: objdump of binutils. If auditwheel is installed, its
+report is printed.
 
-The status is 0 where all is so, and else 1, with a line for what is not.
+The status is 0 if all of this holds, and 1 otherwise, with a line that says what does not.
 """
 
 import base64
@@ -30,13 +30,13 @@ class Wrong(Exception):
 
 
 def glibc_of(platform):
-    """The version of glibc that a platform tag stands for."""
+    """The version of glibc that a platform tag names."""
     found = re.fullmatch(r"manylinux_(\d+)_(\d+)_x86_64", platform)
     if found:
         return int(found[1]), int(found[2])
     name = platform.replace("_x86_64", "")
     if name not in OLDER or not platform.endswith("_x86_64"):
-        raise Wrong(f"its tag {platform} stands for no glibc on x86-64")
+        raise Wrong(f"its tag {platform} names no glibc version on x86-64")
     return OLDER[name]
 
 
@@ -47,7 +47,7 @@ def dumped(flag, file):
 def newest(file, name, limit):
     """The newest version of glibc that a library takes a symbol of."""
     if "file format elf64-x86-64" not in dumped("-f", file):
-        raise Wrong(f"{name} is no library for x86-64")
+        raise Wrong(f"{name} is not a library for x86-64")
     others = set(re.findall(r"^ *NEEDED +(\S+)$", dumped("-p", file), re.M)) - LIBRARIES
     if others:
         raise Wrong(f"{name} needs {', '.join(sorted(others))}")
@@ -59,9 +59,9 @@ def newest(file, name, limit):
     late = sorted(symbol for symbol, version in versions.items() if version > limit)
     if late:
         words = ", ".join(f"{symbol} of glibc {'.'.join(map(str, versions[symbol]))}" for symbol in late)
-        raise Wrong(f"{name} takes {words}: its tags are for glibc {'.'.join(map(str, limit))}")
+        raise Wrong(f"{name} imports {words}, but its tags promise glibc {'.'.join(map(str, limit))}")
     if not versions:
-        raise Wrong(f"{name}: no symbol of glibc is seen in what objdump -T says")
+        raise Wrong(f"{name}: objdump -T shows no glibc symbol")
     return max(versions.values())
 
 
@@ -75,10 +75,10 @@ def check(wheel):
         for name in names:
             digest = base64.urlsafe_b64encode(hashlib.sha256(archive.read(name)).digest()).rstrip(b"=").decode()
             if name != record and sums.get(name) != f"sha256={digest}":
-                raise Wrong(f"RECORD has not the sum of {name}")
+                raise Wrong(f"RECORD has no hash, or another hash, for {name}")
         said = re.findall(r"^Tag: py3-none-(\S+)$", archive.read(record.replace("RECORD", "WHEEL")).decode(), re.M)
         if said != platforms.split("."):
-            raise Wrong(f"its file WHEEL has the tags {', '.join(said)}")
+            raise Wrong(f"its file WHEEL has the tags {', '.join(said)}, not those of its name")
         libraries = [name for name in names if ".so" in os.path.basename(name)]
         if not libraries:
             raise Wrong("it has no library")
@@ -88,7 +88,7 @@ def check(wheel):
     if shutil.which("auditwheel"):
         subprocess.run(["auditwheel", "show", wheel], check=True)
     else:
-        print("auditwheel: it is not here")
+        print("skipped auditwheel: it is not installed")
 
 
 if __name__ == "__main__":

@@ -1,6 +1,6 @@
-"""The Python package: its documented examples, each function with a value from the manual, each kind of refusal, and values of no use.
+"""Tests the Python package: its documented examples, each function with a value from the manual, each kind of refusal, and invalid values.
 
-    calls.py [FOLDER]       FOLDER has the package; none where it is installed
+    calls.py [FOLDER]       FOLDER has the package; omit it if the package is installed
 """
 
 import ctypes
