@@ -88,7 +88,7 @@ def tool(*words):
 def instructions(file, name):
     """The addresses of the instructions of a function, by objdump."""
     found = tool("objdump", "-d", "--no-show-raw-insn", f"--disassemble={name}", file)
-    return [int(it, 16) for it in re.findall(r"^ +([0-9a-f]+):\t(?!nop|xchg +%ax,%ax|data16|cs nop)", found, re.M)]
+    return [int(it, 16) for it in re.findall(r"^ +([0-9a-f]+):\t(?!nop|xchg +%ax,%ax|data16|cs nop|lea +0x0\(%esi)", found, re.M)]
 
 
 def tries_names(program, stripped, obj):

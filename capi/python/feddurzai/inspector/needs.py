@@ -15,14 +15,16 @@ import feddurzai
 
 from .. import _native
 from .._effects import effects_of
+from . import tables
 from .elf import Function, Program, Section
-from .scan import BAD, chunks, features_of, reach, references
+from .scan import BAD, chunks, features_of, flow_of, reach, references
 
-# System V ABI, AMD64 supplement, table 3.1; LAHF and SAHF have no feature of their own here
+# System V ABI, AMD64 supplement, table 3.1. LAHF and SAHF have no feature of their own here. XSAVE (OSXSAVE there) is left out: programs use
+# XGETBV to detect features, after a CPUID test, so it says nothing about a level.
 LEVELS: Tuple[FrozenSet[str], ...] = (
     frozenset("FPU TSC MSR CX8 CMOV CLFSH MMX FXSR SSE SSE2 SYSCALL".split()),
     frozenset("CX16 POPCNT SSE3 SSE41 SSE42 SSSE3".split()),
-    frozenset("AVX AVX2 BMI1 BMI2 F16C FMA LZCNT MOVBE XSAVE".split()),
+    frozenset("AVX AVX2 BMI1 BMI2 F16C FMA LZCNT MOVBE".split()),
     frozenset(["AVX512"]),
 )
 # what a byte begins that has no row
@@ -102,11 +104,24 @@ class _Survey:
         self.program = program
         self.items = [_Items(program, it) for it in program.code_sections() if not it.name.startswith(".plt")]
         self.starts = sorted(program.functions)
+        self.cases = self._cases()
 
     def function_at(self, address: int) -> Optional[Function]:
         """The function at or before an address."""
         n = bisect.bisect_right(self.starts, address)
         return self.program.functions[self.starts[n - 1]] if n else None
+
+    def _cases(self) -> Dict[int, List[int]]:
+        """For each function with jump tables their targets."""
+        found: Dict[int, List[int]] = {}
+        for items in self.items:
+            jumps = {key for key, fields in items.structs.items() if flow_of(fields) == feddurzai.Flow.INDIRECT_JUMP}
+            for at in [at for at, key in items.keys.items() if key in jumps] if jumps else []:
+                function = self.program.function_around(items.section.start + at)
+                if function is not None and function.start not in found and function.size <= _native.MAX_FLOW:
+                    followed = tables.follow(self.program, function)
+                    found[function.start] = [target for table in followed.tables for target in table.targets]
+        return found
 
     def in_code(self, address: int) -> bool:
         return any(it.section.contains(address) for it in self.items)
@@ -122,6 +137,8 @@ class _Survey:
                 if function is None or not is_branch and function.ifunc:
                     continue
                 named.setdefault(function.start, []).append(target)
+        for start, targets in self.cases.items():
+            named.setdefault(start, []).extend(targets)
         found: Set[int] = set()
         waiting = [it for it in self.program.entries() if self.in_code(it)]
         done: Set[int] = set()
@@ -235,8 +252,10 @@ def needs_of(program: Program) -> Needs:
     survey = _Survey(program)
     functions = {it for it in program.functions if survey.in_code(it)}
     if functions:
-        reached = survey.part(survey.reached_entries() if not program.is_object else functions)
-        everything = survey.part(functions | {it for it in program.entries() if survey.in_code(it)})
+        cases = {target for targets in survey.cases.values() for target in targets}
+        entries = survey.reached_entries() if not program.is_object else functions | cases
+        reached = survey.part(entries)
+        everything = survey.part(functions | entries | cases)
     else:
         reached = everything = survey.part(None)
     resolvers = [it.name for it in program.functions.values() if it.ifunc]
