@@ -24,6 +24,8 @@ MACHINES = {"EM_X86_64": 64, "EM_386": 32}
 FUNCTIONS = ("STT_FUNC", "STT_LOOS", "STT_GNU_IFUNC")
 # relocations that store an address of the file itself: R_X86_64_RELATIVE and R_386_RELATIVE, R_X86_64_64
 RELATIVE, ABSOLUTE_64 = 8, 1
+# relocations that store what a resolver returns: R_X86_64_IRELATIVE, R_386_IRELATIVE
+RESOLVED = {64: 37, 32: 42}
 
 
 class BadFile(Exception):
@@ -144,10 +146,12 @@ class Program:
     def _take_relocation(self, elf: Any, symbols: Any, relocation: Any, base: int) -> None:
         place, number = base + relocation["r_offset"], relocation["r_info_sym"]
         if not number:
-            if relocation["r_info_type"] == RELATIVE:
-                addend = relocation["r_addend"] if relocation.is_RELA() else self._word_at(place)
-                if addend is not None:
-                    self.stored[place] = addend
+            addend = relocation["r_addend"] if relocation.is_RELA() else self._word_at(place)
+            if addend is not None and relocation["r_info_type"] == RELATIVE:
+                self.stored[place] = addend
+            elif addend is not None and relocation["r_info_type"] == RESOLVED[self.bits]:
+                self._ifuncs.add(addend)
+                self._name(addend, f"resolver_{addend:x}", 0, True)
             return
         if not hasattr(symbols, "get_symbol"):
             return
@@ -277,8 +281,8 @@ class Program:
         raise BadFile(f"no function and no code section is named {name!r}: list the names with: python3 -m feddurzai list FILE")
 
     def entries(self) -> Set[int]:
-        """The addresses at which control may enter from outside: the entry point, initializers, exported functions, stored addresses of code."""
-        found = {self.entry, *self.exported}
+        """The addresses at which control may enter from outside: the entry point, initializers, exported functions and resolvers, stored addresses of code."""
+        found = {self.entry, *self.exported, *self._ifuncs}
         found.update(self.stored.values())
         for section in self.sections:
             if section.name in (".init_array", ".fini_array", ".preinit_array", ".ctors", ".dtors"):

@@ -2,7 +2,7 @@
 
 Two sets of code are told apart. `reached` is what control can reach from the entry points: the ELF entry, initializers, exported functions, and
 functions whose address is stored or taken. A resolver of an indirect function (IFUNC) is reached, but the variants among which it chooses are not,
-unless other code calls them. `all` is what control reaches from every known function. Bytes that neither reaches, such as data among code, are not
+unless code branches to them. `all` is what control reaches from every known function. Bytes that neither reaches, such as data among code, are not
 taken for instructions. Without any known function, both are the linear listing.
 """
 
@@ -126,21 +126,32 @@ class _Survey:
     def in_code(self, address: int) -> bool:
         return any(it.section.contains(address) for it in self.items)
 
+    def _variants(self) -> Set[int]:
+        """The addresses among which the resolvers of indirect functions choose: those that they take."""
+        found: Set[int] = set()
+        for items in self.items:
+            for offset, target, is_branch in items.references:
+                if not is_branch and self.in_code(target):
+                    function = self.function_at(items.section.start + offset)
+                    if function is not None and function.ifunc:
+                        found.add(target)
+        return found
+
     def reached_entries(self) -> Set[int]:
-        """The entries of the functions that control can reach from the entry points, IFUNC variants left out."""
+        """The entries of the functions that control can reach from the entry points. IFUNC variants are left out, unless code branches to them."""
+        variants = self._variants()
         named: Dict[int, List[int]] = {}
         for items in self.items:
             for offset, target, is_branch in items.references:
-                if not self.in_code(target):
+                if not self.in_code(target) or not is_branch and target in variants:
                     continue
                 function = self.function_at(items.section.start + offset)
-                if function is None or not is_branch and function.ifunc:
-                    continue
-                named.setdefault(function.start, []).append(target)
+                if function is not None:
+                    named.setdefault(function.start, []).append(target)
         for start, targets in self.cases.items():
             named.setdefault(start, []).extend(targets)
         found: Set[int] = set()
-        waiting = [it for it in self.program.entries() if self.in_code(it)]
+        waiting = [it for it in self.program.entries() if self.in_code(it) and it not in variants]
         done: Set[int] = set()
         while waiting:
             address = waiting.pop()
@@ -306,7 +317,7 @@ def lines(path: str, found: Needs) -> List[str]:
         if part is found.all and found.all is found.reached:
             break
     if found.resolvers:
-        written.append(f"  chosen at run time: the variants of {len(found.resolvers)} indirect functions (IFUNC) are not in the first set unless called directly")
+        written.append(f"  chosen at run time: the variants of {len(found.resolvers)} indirect functions (IFUNC) are not in the first set unless code branches to them")
     if found.dispatchers:
         names = ", ".join(found.dispatchers[:5]) + (", .." if len(found.dispatchers) > 5 else "")
         written.append(f"  not known: what code that CPUID guards is executed; CPUID or XGETBV is in {names}")

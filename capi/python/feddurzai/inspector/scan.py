@@ -9,7 +9,7 @@ from typing import Dict, FrozenSet, Iterable, Iterator, List, NamedTuple, Option
 
 from .. import _checks, _native
 from .._effects import effects_of
-from .._info import info_of
+from .._info import info_of, name_of
 from .._items import HIGH_AT, LEN_AT, LOW_AT, SIZE
 from .._numbers import Flow, OperandKind, RegClass
 from .._refusal import taken
@@ -112,9 +112,13 @@ _FEATURES: Dict[Tuple[int, Tuple[int, ...]], FrozenSet[str]] = {}
 
 
 def features_of(bits: int, key: Tuple[int, ...], fields: bytes) -> FrozenSet[str]:
-    """The features that an instruction needs, which depend on its code and the kinds of its operands."""
+    """The features that an instruction needs, which depend on its code and the kinds of its operands.
+
+    TZCNT needs none: compilers write `rep bsf` into code for every processor, which runs as BSF without BMI1.
+    """
     if (bits, key) not in _FEATURES:
-        _FEATURES[bits, key] = effects_of(bits, fields).features
+        code = fields[LOW_AT] + 256 * fields[HIGH_AT]
+        _FEATURES[bits, key] = frozenset() if name_of(code) == "tzcnt" else effects_of(bits, fields).features
     return _FEATURES[bits, key]
 
 
