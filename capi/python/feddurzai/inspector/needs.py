@@ -14,10 +14,9 @@ from typing import Any, Dict, FrozenSet, Iterable, List, NamedTuple, Optional, S
 import feddurzai
 
 from .. import _native
-from .._effects import effects_of
 from . import tables
 from .elf import Function, Program, Section
-from .scan import BAD, chunks, features_of, flow_of, reach, references
+from .scan import BAD, chunks, features_of, flow_of, key_of, reach, references
 
 # System V ABI, AMD64 supplement, table 3.1. LAHF and SAHF have no feature of their own here. XSAVE (OSXSAVE there) is left out: programs use
 # XGETBV to detect features, after a CPUID test, so it says nothing about a level.
@@ -252,8 +251,8 @@ def _features(program: Program, items: _Items, starts: Iterable[int]) -> Dict[st
             found[feature] = min(at, found.get(feature, at))
     # instructions that the linear listing reads otherwise
     for at in apart:
-        instr = feddurzai.decode(program.bits, items.section.start, items.section.code, at)
-        for feature in effects_of(program.bits, instr._struct).features:
+        fields = feddurzai.decode(program.bits, items.section.start, items.section.code, at)._struct
+        for feature in features_of(program.bits, key_of(fields), fields):
             found[feature] = min(at, found.get(feature, at))
     return found
 

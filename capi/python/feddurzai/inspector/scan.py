@@ -53,6 +53,11 @@ class Chunk(NamedTuple):
         return list(zip(structs[LOW_AT::SIZE], structs[HIGH_AT::SIZE], *(structs[at::SIZE] for at in _KINDS_AT)))
 
 
+def key_of(fields: bytes) -> Tuple[int, ...]:
+    """The key of one struct, as `Chunk.keys` has it."""
+    return (fields[LOW_AT], fields[HIGH_AT], *(fields[at] for at in _KINDS_AT))
+
+
 def chunks(bits: int, start: int, code: bytes) -> Iterator[Chunk]:
     """The items of some code, from its first byte on."""
     room, count = _Room(), c_size_t()
