@@ -9,9 +9,9 @@
 #   PREFIX/share/feddurzai/python       the Python package: pip installs this folder, and PYTHONPATH may name it
 #   PREFIX/share/feddurzai/gdb.py       the commands for GDB
 #
-# FOLDER has the built library: capi/out where none is named, which is built first where it is not there (build.sh says what that
-# wants). It wants a C compiler ($CC, else gcc). DESTDIR may stand in front of PREFIX, as packages are made, and LIBDIR, as
-# lib/x86_64-linux-gnu, in the place of lib for the libraries and feddurzai.pc. packaging/build.sh makes packages.
+# FOLDER has the built library. The default is capi/out, which build.sh builds first if it does not exist. Required: a C compiler ($CC, or
+# gcc). If DESTDIR is set, files go below DESTDIR/PREFIX, as for packages. If LIBDIR is set, such as lib/x86_64-linux-gnu, the libraries and
+# feddurzai.pc go there in place of lib. packaging/build.sh makes packages.
 set -eu
 if [ "${1:-}" = --help ]; then
     sed -n '2,/^set/s/^# \{0,1\}//p' "$0"
@@ -33,7 +33,7 @@ cc=${CC:-gcc}
 work=$(mktemp -d)
 trap 'rm -rf "$work"' EXIT
 
-# what the library says of itself is the one source of its numbers
+# the library itself is the only source of its numbers
 cat >"$work/versions.c" <<'SOURCE'
 #include "feddurzai.h"
 #include <stdio.h>
@@ -52,7 +52,7 @@ to=${DESTDIR:-}$prefix
 share=$to/share/feddurzai
 libdir=${LIBDIR:-lib}
 file=libfeddurzai.so.$interface.$version
-mkdir -p "$to/include" "$to/$libdir/pkgconfig" "$share/python/feddurzai"
+mkdir -p "$to/include" "$to/$libdir/pkgconfig" "$share/python/feddurzai/inspector"
 install -m 644 "$here/feddurzai.h" "$to/include/"
 install -m 644 "$from/libfeddurzai.a" "$to/$libdir/"
 install -m 755 "$from/libfeddurzai.so" "$to/$libdir/$file"
@@ -61,13 +61,14 @@ ln -sf "libfeddurzai.so.$interface" "$to/$libdir/libfeddurzai.so"
 install -m 644 "$here/gdb.py" "$share/"
 install -m 644 "$here/python/pyproject.toml" "$here/python/backend.py" "$share/python/"
 install -m 644 "$here"/python/feddurzai/*.py "$here/python/feddurzai/py.typed" "$share/python/feddurzai/"
+install -m 644 "$here"/python/feddurzai/inspector/*.py "$share/python/feddurzai/inspector/"
 cat >"$to/$libdir/pkgconfig/feddurzai.pc" <<END_OF_PC
 prefix=$prefix
 includedir=\${prefix}/include
 libdir=\${prefix}/$libdir
 
 Name: feddurzai
-Description: x86 instructions read, written, told and moved
+Description: Decodes, encodes, prints, analyses and relocates x86 machine code
 Version: $version
 Cflags: -I\${includedir}
 Libs: -L\${libdir} -lfeddurzai

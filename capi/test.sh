@@ -170,9 +170,9 @@ end'
     say "$backend: feddurzai-list and feddurzai-flow ran in a stopped process, with and without debug information"
 }
 
-inspector() { "$with_elftools" "$here/examples/inspector.py" "$@"; }
+inspector() { PYTHONPATH=$here/python FEDDURZAI_LIBRARY=$out/libfeddurzai.so "$with_elftools" -m feddurzai "$@"; }
 
-# tries_inspector: the listing of a function and of a section, with symbols and stripped, its graph and its page
+# tries_inspector: the inspector's commands on a program with symbols and stripped, and on files that it refuses
 tries_inspector() {
     with_elftools=
     for python in python3 /usr/bin/python3; do
@@ -183,38 +183,43 @@ tries_inspector() {
         return
     fi
     makes_debugged -g0
-    inspector "$work/debugged" main >"$work/main.log"
+    inspector list "$work/debugged" main >"$work/main.log"
     for line in 'e8[0-9a-f]{8} +call 0x[0-9a-f]+ <called>' 'call 0x[0-9a-f]+ <mmap@plt>' 'mov qword \[rel 0x[0-9a-f]+\], r[a-z]x <edge>'; do
         grep -Eq "$line\$" "$work/main.log" || die_with "$work/main.log" "inspector: no line of the output above matches $line"
     done
-    inspector "$work/debugged" called --colour always | grep -q "$(printf '\033')\[36mret" || die "inspector: --colour always writes no colours"
-    inspector "$work/debugged" | grep -Eq '^[0-9a-f]{16} +[0-9]+ called$' || die "inspector: the list of functions lacks 'called'"
-    inspector "$work/debugged" nowhere 2>&1 | grep -q '^inspector.py: no function and no section' || die "inspector: an unknown name is not refused"
-    inspector "$here/test.sh" 2>&1 | grep -q '^inspector.py: ' || die "inspector: a file that is not ELF is not refused"
+    inspector list "$work/debugged" called --colour always | grep -q "$(printf '\033')\[36mret" || die "inspector: --colour always writes no colours"
+    inspector list "$work/debugged" | grep -Eq '^[0-9a-f]{16} +[0-9]+ called$' || die "inspector: the list of functions lacks 'called'"
+    ! inspector list "$work/debugged" nowhere 2>"$work/refused.log" || die "inspector: an unknown name is not refused"
+    grep -q '^feddurzai-inspect: .*: no function and no code section is named' "$work/refused.log" || die_with "$work/refused.log" "inspector: an unknown name is refused without a reason"
+    ! inspector list "$here/test.sh" 2>"$work/refused.log" || die "inspector: a file that is not ELF is not refused"
+    grep -q '^feddurzai-inspect: .*: not an ELF file$' "$work/refused.log" || die_with "$work/refused.log" "inspector: a file that is not ELF is refused without a reason"
 
     # a stripped file, by the address of a function
     strip -o "$work/stripped" "$work/debugged"
-    at=$(inspector "$work/debugged" | awk '$3 == "called" { sub(/^0*/, "", $1); print $1 }')
-    inspector "$work/stripped" "0x$at" | grep -v '>:$' | sed 's/ <.*//' >"$work/stripped.log"
-    inspector "$work/debugged" called | grep -v '>:$' | sed 's/ <.*//' | cmp - "$work/stripped.log" || die "inspector: a stripped file is listed differently"
+    at=$(inspector list "$work/debugged" | awk '$3 == "called" { sub(/^0*/, "", $1); print $1 }')
+    inspector list "$work/stripped" "0x$at" | grep -v '>:$' | sed 's/ <.*//' >"$work/stripped.log"
+    inspector list "$work/debugged" called | grep -v '>:$' | sed 's/ <.*//' | cmp - "$work/stripped.log" || die "inspector: a stripped file is listed differently"
 
     # a section, against the program
-    inspector "$work/debugged" .text | grep -v '>:$' | sed 's/^ *//; s/ .*//' >"$work/section.log"
+    inspector list "$work/debugged" .text | grep -v '>:$' | sed 's/^ *//; s/ .*//' >"$work/section.log"
     objcopy -O binary --only-section=.text "$work/debugged" "$work/debugged.bin"
     "$program" list 64 "$(head -1 "$work/section.log")" intel <"$work/debugged.bin" | sed 's/ .*//' | cmp - "$work/section.log" || die "inspector: .text is listed differently from the program"
 
+    inspector needs "$work/debugged" | grep -q 'reached from the entry points: x86-64-v1,' || die "inspector: needs does not report x86-64-v1 for a program without vector code"
+    inspector hookable "$work/debugged" called | grep -Eq "^0*$at +[0-9]+ near +called$" || die "inspector: hookable does not report 'called' as hookable"
+    "$with_elftools" "$here/tests/inspector.py" "$here/python" "$out/libfeddurzai.so" >"$work/inspector.log" 2>&1 || die_with "$work/inspector.log" "$backend: tests/inspector.py failed"
     if ! command -v dot >/dev/null; then
-        say "$backend: examples/inspector.py lists functions and a section; skipped the graph: Graphviz is not installed"
+        say "$backend: the inspector lists, reports needs and hooks; $(tail -1 "$work/inspector.log"); skipped pictures: Graphviz is not installed"
         return
     fi
-    inspector "$work/debugged" --flow called "$work/called.svg"
-    [ "$(grep -c 'class="edge"' "$work/called.svg")" -ge 2 ] || die_with "$work/called.svg" "inspector: the graph of --flow has fewer than 2 edges"
-    inspector "$work/debugged" called --html "$work/called.html"
+    inspector graph "$work/debugged" called -o "$work/called.svg"
+    [ "$(grep -c 'class="edge"' "$work/called.svg")" -ge 2 ] || die_with "$work/called.svg" "inspector: the graph has fewer than 2 edges"
+    inspector page "$work/debugged" called -o "$work/called.html"
     # each link goes to a line that is there
     grep -o 'href="#a[0-9a-f]*"' "$work/called.html" | sed 's/.*#\(.*\)"/id="\1"/' | sort -u >"$work/links"
-    [ "$(wc -l <"$work/links")" -ge 5 ] || die "inspector: the page of --html has fewer than 5 links"
-    while read -r link; do grep -q "$link" "$work/called.html" || die "inspector: the page of --html has no target for its link $link"; done <"$work/links"
-    say "$backend: examples/inspector.py lists functions and a section, and writes a graph and a page"
+    [ "$(wc -l <"$work/links")" -ge 5 ] || die "inspector: the page has fewer than 5 links"
+    while read -r link; do grep -q "$link" "$work/called.html" || die "inspector: the page has no target for its link $link"; done <"$work/links"
+    say "$backend: the inspector lists, draws a graph and a page, reports needs and hooks; $(tail -1 "$work/inspector.log")"
 }
 
 for backend in llvm rattle; do

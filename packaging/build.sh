@@ -322,7 +322,7 @@ Description: x86 decoder, encoder and relocator - files for development
  pkg-config file, and examples.
 END_OF_FIELDS
 debian python3-feddurzai all python "python3:any, $library (>= $version)" <<'END_OF_FIELDS'
-Suggests: gdb, python3-pyelftools
+Suggests: gdb, graphviz, python3-distributed, python3-pyelftools
 Description: x86 decoder, encoder and relocator - Python package
  Feddurzai decodes, encodes, prints and relocates 16, 32 and 64-bit x86 code,
  and makes hooks.

@@ -145,8 +145,10 @@ sys.exit(not (feddurzai.__file__.startswith(sys.argv[1]) and len(maps) == 1 and 
     printf '\211\370\367\330\017\110\307\303' >"$root/try/abs.bin"
     alone "liveness.py" "$1" "$3/liveness.py" /try/abs.bin 64 401000
     says '^0000000000401002 +neg eax +OF SF ZF AF PF CF$' "liveness.py"
-    alone "inspector.py" env PYTHONPATH=/try/elftools "$1" "$3/inspector.py" /bin/ls .text
-    says ' call 0x' "inspector.py"
+    alone "feddurzai-inspect list" env PYTHONPATH=/try/elftools "$1" -m feddurzai list /bin/ls .text
+    says ' call 0x' "feddurzai-inspect list"
+    alone "feddurzai-inspect needs" env PYTHONPATH=/try/elftools "$1" -m feddurzai needs /bin/ls
+    says 'reached from the entry points: x86-64-v[1-4]' "feddurzai-inspect needs"
 }
 tries_python /try/venv/bin/python /try/venv/ /try /try/venv/
 say "wheel: pip installed it without a network; the examples ran in a venv; $said"

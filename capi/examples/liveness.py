@@ -95,15 +95,18 @@ def name_of(register, bits):
 
 def main(words):
     file, *rest = words
-    with open(file, "rb") as source:
-        if rest and rest[0] not in ("16", "32", "64"):
-            from inspector import Program
+    if rest and rest[0] not in ("16", "32", "64"):
+        from feddurzai.inspector.elf import BadFile, open_program
 
-            program = Program(source)
-            bits = program.bits
-            _, start, code = program.code_of(rest[0])
-        else:
-            bits, start = int((rest or ["64"])[0]), int(rest[1], 16) if len(rest) > 1 else 0
+        try:
+            program = open_program(file)
+            function = program.find(rest[0])
+        except BadFile as error:
+            raise LookupError(f"{file}: {error}") from None
+        bits, start, code = program.bits, function.start, program.code_of(function)
+    else:
+        bits, start = int((rest or ["64"])[0]), int(rest[1], 16) if len(rest) > 1 else 0
+        with open(file, "rb") as source:
             code = source.read()
     for step, dead in liveness(bits, start, code):
         registers = sorted((it for it in dead if isinstance(it, Register)), key=lambda it: it.number)

@@ -18,6 +18,13 @@ import zipfile
 
 HERE = os.path.dirname(os.path.abspath(__file__))
 
+# what pip installs only on request: pyelftools for the inspector, Dask for many files on a cluster
+EXTRAS = (
+    "Provides-Extra: elf\nRequires-Dist: pyelftools; extra == 'elf'\n"
+    "Provides-Extra: cluster\nRequires-Dist: distributed; extra == 'cluster'\n"
+)
+SCRIPTS = "[console_scripts]\nfeddurzai-inspect = feddurzai.inspector.command:main\n"
+
 
 def _package():
     """The package, with the library that it loads."""
@@ -39,7 +46,7 @@ def _library(native):
 
 
 def _metadata(version):
-    return f"Metadata-Version: 2.1\nName: feddurzai\nVersion: {version}\nSummary: Decodes, encodes, prints, analyses and relocates x86 machine code\nRequires-Python: >=3.8\n"
+    return f"Metadata-Version: 2.1\nName: feddurzai\nVersion: {version}\nSummary: Decodes, encodes, prints, analyses and relocates x86 machine code\nRequires-Python: >=3.8\n{EXTRAS}"
 
 
 def _put(archive, name, content):
@@ -62,6 +69,7 @@ def _wheel(directory, files, tag):
     files = {
         **{name.replace("INFO/", f"{info}/"): content for name, content in files.items()},
         f"{info}/METADATA": _metadata(version).encode(),
+        f"{info}/entry_points.txt": SCRIPTS.encode(),
         f"{info}/WHEEL": f"Wheel-Version: 1.0\nGenerator: feddurzai\nRoot-Is-Purelib: false\n{tags}".encode(),
     }
     record = ""
@@ -86,11 +94,12 @@ def get_requires_for_build_wheel(config_settings=None):
 def build_wheel(wheel_directory, config_settings=None, metadata_directory=None):
     _, native = _package()
     settings, files = config_settings or {}, {}
-    folder = os.path.join(HERE, "feddurzai")
-    for name in sorted(os.listdir(folder)):
-        if name.endswith(".py") or name == "py.typed":
-            with open(os.path.join(folder, name), "rb") as source:
-                files[f"feddurzai/{name}"] = source.read()
+    for part in ("feddurzai", "feddurzai/inspector"):
+        folder = os.path.join(HERE, part)
+        for name in sorted(os.listdir(folder)):
+            if name.endswith(".py") or name == "py.typed":
+                with open(os.path.join(folder, name), "rb") as source:
+                    files[f"{part}/{name}"] = source.read()
     with open(_library(native), "rb") as source:
         files[f"feddurzai/{native.SONAME}"] = source.read()
     notes = settings.get("notes")

@@ -1,0 +1,324 @@
+"""Which processor a file needs: the CPU features of its code, and the least x86-64 level that has them.
+
+Two sets of code are told apart. `reached` is what control can reach from the entry points: the ELF entry, initializers, exported functions, and
+functions whose address is stored or taken. A resolver of an indirect function (IFUNC) is reached, but the variants among which it chooses are not,
+unless code branches to them. `all` is what control reaches from every known function. Bytes that neither reaches, such as data among code, are not
+taken for instructions. Without any known function, both are the linear listing.
+"""
+
+from __future__ import annotations
+
+import bisect
+from typing import Any, Dict, FrozenSet, Iterable, List, NamedTuple, Optional, Sequence, Set, Tuple
+
+import feddurzai
+
+from .. import _native
+from . import tables
+from .elf import Function, Program, Section
+from .scan import BAD, chunks, features_of, flow_of, key_of, reach, references
+
+# System V ABI, AMD64 supplement, table 3.1. LAHF and SAHF have no feature of their own here. XSAVE (OSXSAVE there) is left out: programs use
+# XGETBV to detect features, after a CPUID test, so it says nothing about a level.
+LEVELS: Tuple[FrozenSet[str], ...] = (
+    frozenset("FPU TSC MSR CX8 CMOV CLFSH MMX FXSR SSE SSE2 SYSCALL".split()),
+    frozenset("CX16 POPCNT SSE3 SSE41 SSE42 SSSE3".split()),
+    frozenset("AVX AVX2 BMI1 BMI2 F16C FMA LZCNT MOVBE".split()),
+    frozenset(["AVX512"]),
+)
+# what a byte begins that has no row
+UNREAD = {0x62: "EVEX", 0xC4: "VEX", 0xC5: "VEX", 0x8F: "XOP", 0x0F: "0F"}
+PREFIXES = b"\x26\x2e\x36\x3e\x64\x65\x66\x67\xf0\xf2\xf3"
+
+
+def level_of(features: Iterable[str]) -> int:
+    """The least x86-64 level, 1 to 4, that has those of the features that belong to a level."""
+    return max([n for n, level in enumerate(LEVELS, 1) if level & set(features)], default=1)
+
+
+class Use(NamedTuple):
+    """The first instruction that needs a feature."""
+
+    address: int
+    function: str
+
+
+class Unread(NamedTuple):
+    """Reached places at which no instruction of the table starts, by what their bytes begin."""
+
+    kind: str
+    count: int
+    first: int
+
+
+class Part(NamedTuple):
+    """What some code needs: for each feature its first use, and the places that cannot be read."""
+
+    features: Dict[str, Use]
+    unread: List[Unread]
+    instructions: int
+
+    def level(self) -> int:
+        found = set(self.features)
+        if any(it.kind == "EVEX" for it in self.unread):
+            found.add("AVX512")
+        return level_of(found)
+
+
+class Needs(NamedTuple):
+    """What a file needs. `resolvers` are its IFUNC resolvers, `dispatchers` the functions that execute CPUID or XGETBV."""
+
+    bits: int
+    reached: Part
+    all: Part
+    functions: int
+    resolvers: List[str]
+    dispatchers: List[str]
+
+
+class _Items:
+    """The linear listing of a section: the offset of each item, its key, and the addresses that it names."""
+
+    def __init__(self, program: Program, section: Section) -> None:
+        self.section = section
+        self.keys: Dict[int, Tuple[int, ...]] = {}
+        self.references: List[Tuple[int, int, bool]] = []
+        self.structs: Dict[Tuple[int, ...], bytes] = {}
+        for chunk in chunks(program.bits, section.start, section.code):
+            offsets, keys, highs = chunk.offsets(), chunk.keys(), chunk.highs
+            for key in set(keys):
+                if key not in self.structs and key[1] != BAD:
+                    self.structs[key] = chunk.struct_at(keys.index(key))
+            if BAD in highs:
+                self.keys.update((at, key) for at, key in zip(offsets, keys) if key[1] != BAD)
+            else:
+                self.keys.update(zip(offsets, keys))
+            self.references += [(offsets[it.item], it.target, it.is_branch) for it in references(chunk)]
+
+
+class _Survey:
+    """All code sections of a program, and the functions in them."""
+
+    def __init__(self, program: Program) -> None:
+        self.program = program
+        self.items = [_Items(program, it) for it in program.code_sections() if not it.name.startswith(".plt")]
+        self.starts = sorted(program.functions)
+        self.cases = self._cases()
+
+    def function_at(self, address: int) -> Optional[Function]:
+        """The function at or before an address."""
+        n = bisect.bisect_right(self.starts, address)
+        return self.program.functions[self.starts[n - 1]] if n else None
+
+    def _cases(self) -> Dict[int, List[int]]:
+        """For each function with jump tables their targets."""
+        found: Dict[int, List[int]] = {}
+        for items in self.items:
+            jumps = {key for key, fields in items.structs.items() if flow_of(fields) == feddurzai.Flow.INDIRECT_JUMP}
+            for at in [at for at, key in items.keys.items() if key in jumps] if jumps else []:
+                function = self.program.function_around(items.section.start + at)
+                if function is not None and function.start not in found and function.size <= _native.MAX_FLOW:
+                    followed = tables.follow(self.program, function)
+                    found[function.start] = [target for table in followed.tables for target in table.targets]
+        return found
+
+    def in_code(self, address: int) -> bool:
+        return any(it.section.contains(address) for it in self.items)
+
+    def _variants(self) -> Set[int]:
+        """The addresses among which the resolvers of indirect functions choose: those that they take."""
+        found: Set[int] = set()
+        for items in self.items:
+            for offset, target, is_branch in items.references:
+                if not is_branch and self.in_code(target):
+                    function = self.function_at(items.section.start + offset)
+                    if function is not None and function.ifunc:
+                        found.add(target)
+        return found
+
+    def reached_entries(self) -> Set[int]:
+        """The entries of the functions that control can reach from the entry points. IFUNC variants are left out, unless code branches to them."""
+        variants = self._variants()
+        named: Dict[int, List[int]] = {}
+        for items in self.items:
+            for offset, target, is_branch in items.references:
+                if not self.in_code(target) or not is_branch and target in variants:
+                    continue
+                function = self.function_at(items.section.start + offset)
+                if function is not None:
+                    named.setdefault(function.start, []).append(target)
+        for start, targets in self.cases.items():
+            named.setdefault(start, []).extend(targets)
+        found: Set[int] = set()
+        waiting = [it for it in self.program.entries() if self.in_code(it) and it not in variants]
+        done: Set[int] = set()
+        while waiting:
+            address = waiting.pop()
+            if address in found:
+                continue
+            found.add(address)
+            function = self.function_at(address)
+            if function is not None and function.start not in done:
+                done.add(function.start)
+                waiting += named.get(function.start, ())
+        return found
+
+    def part(self, entries: Optional[Set[int]]) -> Part:
+        """What the code needs that control reaches from some addresses; from None, the linear listing."""
+        features: Dict[str, Use] = {}
+        unread: Dict[str, Unread] = {}
+        count = 0
+        for items in self.items:
+            for at, kind in _reached(self.program, items, entries):
+                if kind:
+                    old = unread.get(kind, Unread(kind, 0, items.section.start + at))
+                    unread[kind] = old._replace(count=old.count + 1)
+            starts = items.keys if entries is None else _starts(self.program, items, entries)
+            count += len(starts)
+            for feature, at in _features(self.program, items, starts).items():
+                address = items.section.start + at
+                if feature not in features or address < features[feature].address:
+                    features[feature] = Use(address, self._name(address))
+        return Part(features, sorted(unread.values()), count)
+
+    def _name(self, address: int) -> str:
+        function = self.program.function_around(address)
+        return function.name if function else ""
+
+    def containing(self, names: Tuple[str, ...]) -> List[str]:
+        """The functions that contain an instruction with one of these names."""
+        codes = {code for name in names for code in feddurzai.codes_of(name)}
+        found: Dict[str, None] = {}
+        for items in self.items:
+            wanted = {key for key in items.structs if key[0] + 256 * key[1] in codes}
+            if wanted:
+                for at, key in items.keys.items():
+                    if key in wanted:
+                        found[self._name(items.section.start + at) or f"{items.section.start + at:#x}"] = None
+        return list(found)
+
+
+def _starts(program: Program, items: _Items, entries: Set[int]) -> Sequence[int]:
+    """The offsets of the instructions of a section that control reaches from some addresses."""
+    reached = _reach(program, items, entries)
+    return [at for at, kind in zip(reached[0], reached[1]) if kind < 0xFE]
+
+
+_CACHE: Dict[Tuple[int, int], Tuple[Sequence[int], bytes]] = {}
+
+
+def _reach(program: Program, items: _Items, entries: Set[int]) -> Tuple[Sequence[int], bytes]:
+    key = id(items), id(entries)
+    if key not in _CACHE:
+        _CACHE.clear()
+        section = items.section
+        code = section.code[: _native.MAX_FLOW]
+        inside = [it - section.start for it in entries if section.contains(it)]
+        found = reach(program.bits, section.start, code, inside)
+        _CACHE[key] = found.starts, found.kinds
+    return _CACHE[key]
+
+
+def _reached(program: Program, items: _Items, entries: Optional[Set[int]]) -> List[Tuple[int, str]]:
+    """The reached offsets at which no instruction starts, with what their bytes begin."""
+    code = items.section.code
+    if entries is None:
+        return []
+    starts, kinds = _reach(program, items, entries)
+    return [(at, kind_of(code[at : at + 15])) for at, kind in zip(starts, kinds) if kind == 0xFF] if 0xFF in kinds else []
+
+
+def kind_of(code: bytes) -> str:
+    """What bytes begin that have no row: by the first byte that is no prefix."""
+    rest = code.lstrip(PREFIXES)
+    return UNREAD.get(rest[0], "other") if rest else "other"
+
+
+def _features(program: Program, items: _Items, starts: Iterable[int]) -> Dict[str, int]:
+    """For each feature of the instructions at some offsets the first offset."""
+    first: Dict[Tuple[int, ...], int] = {}
+    apart = []
+    keys = items.keys
+    for at in starts:
+        key = keys.get(at)
+        if key is None:
+            apart.append(at)
+        elif key not in first:
+            first[key] = at
+    found: Dict[str, int] = {}
+    for key, at in first.items():
+        for feature in features_of(program.bits, key, items.structs[key]):
+            found[feature] = min(at, found.get(feature, at))
+    # instructions that the linear listing reads otherwise
+    for at in apart:
+        fields = feddurzai.decode(program.bits, items.section.start, items.section.code, at)._struct
+        for feature in features_of(program.bits, key_of(fields), fields):
+            found[feature] = min(at, found.get(feature, at))
+    return found
+
+
+def needs_of(program: Program) -> Needs:
+    """What a file needs."""
+    survey = _Survey(program)
+    functions = {it for it in program.functions if survey.in_code(it)}
+    if functions:
+        cases = {target for targets in survey.cases.values() for target in targets}
+        entries = survey.reached_entries() if not program.is_object else functions | cases
+        reached = survey.part(entries)
+        everything = survey.part(functions | entries | cases)
+    else:
+        reached = everything = survey.part(None)
+    resolvers = [it.name for it in program.functions.values() if it.ifunc]
+    return Needs(program.bits, reached, everything, len(functions), resolvers, survey.containing(("cpuid", "xgetbv")))
+
+
+def as_json(path: str, found: Needs) -> Dict[str, Any]:
+    """The needs of a file as plain data; addresses are numbers."""
+
+    def part(it: Part) -> Dict[str, Any]:
+        return {
+            "level": it.level() if found.bits == 64 else None,
+            "instructions": it.instructions,
+            "features": {name: {"address": use.address, "function": use.function} for name, use in sorted(it.features.items())},
+            "unread": [{"kind": one.kind, "count": one.count, "first": one.first} for one in it.unread],
+        }
+
+    return {
+        "file": path,
+        "bits": found.bits,
+        "functions": found.functions,
+        "reached": part(found.reached),
+        "all": part(found.all),
+        "resolvers": found.resolvers,
+        "dispatchers": found.dispatchers,
+    }
+
+
+def _words(part: Part, bits: int) -> List[str]:
+    width = bits // 4
+    lines = []
+    for name, use in sorted(part.features.items(), key=lambda it: (level_of([it[0]]), it[0])):
+        level = f"v{level_of([name])}" if any(name in it for it in LEVELS) and bits == 64 else "-"
+        lines.append(f"    {level:3} {name:11} {use.address:0{width}x}  {use.function}")
+    for it in part.unread:
+        what = "EVEX (AVX-512, v4)" if it.kind == "EVEX" else f"{it.kind} without a row"
+        lines.append(f"    not read: {it.count} places, {what}, first at {it.first:0{width}x}")
+    return lines
+
+
+def lines(path: str, found: Needs) -> List[str]:
+    """The needs of a file in words."""
+    written = [f"{path}: {found.bits}-bit, {found.functions} functions known"]
+    for title, part in (("reached from the entry points", found.reached), ("in all known functions", found.all)):
+        level = f"x86-64-v{part.level()}" if found.bits == 64 else "no level (32-bit)"
+        written.append(f"  {title}: {level}, {part.instructions} instructions")
+        written += _words(part, found.bits)
+        if part is found.all and found.all is found.reached:
+            break
+    if found.resolvers:
+        written.append(f"  chosen at run time: the variants of {len(found.resolvers)} indirect functions (IFUNC) are not in the first set unless code branches to them")
+    if found.dispatchers:
+        names = ", ".join(found.dispatchers[:5]) + (", .." if len(found.dispatchers) > 5 else "")
+        written.append(f"  not known: what code that CPUID guards is executed; CPUID or XGETBV is in {names}")
+    written.append("  not known: where indirect jumps and calls go, and code that is made at run time")
+    return written

@@ -1,0 +1,182 @@
+"""Large code, decoded in chunks of raw structs: the loops run in C as far as possible, because a section has millions of instructions."""
+
+from __future__ import annotations
+
+import struct
+from ctypes import byref, c_char_p, c_size_t, c_uint8, c_uint32, c_void_p, cast
+from itertools import accumulate, chain
+from typing import Dict, FrozenSet, Iterable, Iterator, List, NamedTuple, Optional, Sequence, Tuple
+
+from .. import _checks, _native
+from .._effects import effects_of
+from .._info import info_of, name_of
+from .._items import HIGH_AT, LEN_AT, LOW_AT, SIZE
+from .._numbers import Flow, OperandKind, RegClass
+from .._refusal import taken
+from .elf import Program
+
+CHUNK = 4096
+_OP_SIZE, _KIND_AT, _BASE_AT = 24, 14, 15
+_KINDS_AT = tuple(_OP_SIZE * n + _KIND_AT for n in range(4))
+_Room = _native.room_of(CHUNK * SIZE)
+_VALUE = struct.Struct("=Q")
+# no row has a code with this high byte: the item is a single byte
+BAD = 0xFF
+_POINTERS = (RegClass.EIP, RegClass.RIP)
+
+
+class Chunk(NamedTuple):
+    """Consecutive items of some code: the offset of the first one, and a struct for each."""
+
+    offset: int
+    structs: bytes
+
+    @property
+    def lengths(self) -> bytes:
+        return self.structs[LEN_AT::SIZE]
+
+    @property
+    def highs(self) -> bytes:
+        """For each item the high byte of its code; BAD for a single byte."""
+        return self.structs[HIGH_AT::SIZE]
+
+    def offsets(self) -> List[int]:
+        """The offsets of the items, and that after the last one."""
+        return list(accumulate(chain((self.offset,), self.lengths)))
+
+    def struct_at(self, n: int) -> bytes:
+        return self.structs[n * SIZE : (n + 1) * SIZE]
+
+    def keys(self) -> List[Tuple[int, ...]]:
+        """For each item its code and operand kinds, on which its features depend."""
+        structs = self.structs
+        return list(zip(structs[LOW_AT::SIZE], structs[HIGH_AT::SIZE], *(structs[at::SIZE] for at in _KINDS_AT)))
+
+
+def key_of(fields: bytes) -> Tuple[int, ...]:
+    """The key of one struct, as `Chunk.keys` has it."""
+    return (fields[LOW_AT], fields[HIGH_AT], *(fields[at] for at in _KINDS_AT))
+
+
+def chunks(bits: int, start: int, code: bytes) -> Iterator[Chunk]:
+    """The items of some code, from its first byte on."""
+    room, count = _Room(), c_size_t()
+    # the address stays valid as long as `code` is alive
+    at, where = 0, cast(c_char_p(code), c_void_p).value or 0
+    while at < len(code):
+        taken(_native.decode_many(bits, start + at & _checks.U64, where + at, len(code) - at, room, CHUNK, byref(count)))
+        chunk = Chunk(at, room.raw[: count.value * SIZE])
+        yield chunk
+        at += sum(chunk.lengths)
+
+
+def _places(data: bytes, value: int) -> Iterator[int]:
+    """The indices of a byte."""
+    wanted = bytes((value,))
+    at = data.find(wanted)
+    while at >= 0:
+        yield at
+        at = data.find(wanted, at + 1)
+
+
+class Reference(NamedTuple):
+    """An item that names an address: a near branch, or an operand at RIP or EIP."""
+
+    item: int
+    target: int
+    is_branch: bool
+
+
+def references(chunk: Chunk) -> Iterator[Reference]:
+    """The items of a chunk that name an address."""
+    structs = chunk.structs
+    for slot in range(3):
+        kinds = structs[_OP_SIZE * slot + _KIND_AT :: SIZE]
+        if slot == 0:
+            for n in _places(kinds, OperandKind.NEAR):
+                yield Reference(n, _VALUE.unpack_from(structs, n * SIZE)[0], True)
+        bases = structs[_OP_SIZE * slot + _BASE_AT :: SIZE]
+        for pointer in _POINTERS:
+            for n in _places(bases, pointer):
+                if kinds[n] == OperandKind.MEMORY:
+                    yield Reference(n, _VALUE.unpack_from(structs, n * SIZE + _OP_SIZE * slot)[0], False)
+
+
+_FLOWS: Dict[Tuple[int, int], Flow] = {}
+
+
+def flow_of(fields: bytes) -> Flow:
+    """The flow of an instruction, which depends on its code alone."""
+    key = fields[LOW_AT], fields[HIGH_AT]
+    if key not in _FLOWS:
+        _FLOWS[key] = info_of(fields).flow
+    return _FLOWS[key]
+
+
+_FEATURES: Dict[Tuple[int, Tuple[int, ...]], FrozenSet[str]] = {}
+
+
+def features_of(bits: int, key: Tuple[int, ...], fields: bytes) -> FrozenSet[str]:
+    """The features that an instruction needs, which depend on its code and the kinds of its operands.
+
+    TZCNT needs none: compilers write `rep bsf` into code for every processor, which runs as BSF without BMI1.
+    """
+    if (bits, key) not in _FEATURES:
+        code = fields[LOW_AT] + 256 * fields[HIGH_AT]
+        _FEATURES[bits, key] = frozenset() if name_of(code) == "tzcnt" else effects_of(bits, fields).features
+    return _FEATURES[bits, key]
+
+
+class Reached(NamedTuple):
+    """The offsets that control reaches, in ascending order, with the number of the flow at each, or 0xFE or 0xFF if no instruction starts there."""
+
+    starts: Sequence[int]
+    kinds: bytes
+
+
+def reach(bits: int, base: int, code: bytes, entries: Iterable[int]) -> Reached:
+    """Follows control from some offsets of at most MAX_FLOW bytes."""
+    chosen = sorted(set(entries))
+    room = len(code)
+    if not room or not chosen:
+        return Reached((), b"")
+    starts, leaders, kinds = (c_uint32 * room)(), (c_uint32 * room)(), (c_uint8 * room)()
+    count = taken(
+        _native.flow_from(
+            *(bits, base, code, room, (c_uint32 * len(chosen))(*chosen), len(chosen)),
+            *(starts, room, leaders, room, kinds, room),
+        )
+    )
+    return Reached(starts[:count], bytes(kinds[:count]))
+
+
+class Xrefs:
+    """Where the code of a program names addresses: for each target the addresses of the instructions."""
+
+    def __init__(self, program: Program) -> None:
+        self.branches: Dict[int, List[int]] = {}
+        self.data: Dict[int, List[int]] = {}
+        for section in program.code_sections():
+            for chunk in chunks(program.bits, section.start, section.code):
+                offsets = chunk.offsets()
+                for item, target, is_branch in references(chunk):
+                    found = self.branches if is_branch else self.data
+                    found.setdefault(target, []).append(section.start + offsets[item])
+
+    def into(self, start: int, end: int) -> List[Tuple[int, int]]:
+        """The branches whose target is from `start` up to `end`: the address of the branch, and its target."""
+        return sorted((at, target) for target in range(start, end) for at in self.branches.get(target, ()))
+
+    def callers(self, program: Program, start: int) -> List[str]:
+        """The names of the functions that branch to an address from outside, each once."""
+        found: Dict[str, None] = {}
+        for at in self.branches.get(start, ()):
+            function = program.function_around(at)
+            if function is None or function.start != start:
+                found[function.name if function else f"{at:#x}"] = None
+        return list(found)
+
+
+def near_target(fields: bytes) -> Optional[int]:
+    """The target of a near branch, None for any other instruction."""
+    return _VALUE.unpack_from(fields)[0] if fields[_KIND_AT] == OperandKind.NEAR else None

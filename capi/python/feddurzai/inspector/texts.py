@@ -1,0 +1,86 @@
+"""Instruction texts with colours and symbols, for terminals and pages."""
+
+from __future__ import annotations
+
+import html
+import os
+import re
+import sys
+from typing import Iterator, Optional, TextIO, Tuple
+
+import feddurzai
+from feddurzai import Instr, Item
+
+from .elf import Program
+
+PARTS = re.compile(r"(?P<number>\b0x[0-9a-f]+|\$?\b[0-9][0-9a-f]*h?\b)|(?P<word>%?[a-z][a-z0-9]*)|(?P<rest>\s+|[^\sa-z0-9%]+|.)")
+SIZES = {"byte", "word", "dword", "qword", "fword", "tword", "oword", "yword", "xmmword", "ymmword", "ptr", "short", "near", "far", "rel"}
+REGISTERS = {*feddurzai.registers(), "st"}
+COLOURS = {"address": 90, "bytes": 90, "mnemonic": 36, "register": 33, "number": 35, "size": 90, "symbol": 32, "title": 1, "bad": 31, "note": 90}
+
+
+def parts_of(text: str) -> Iterator[Tuple[str, str]]:
+    """Yields the parts of an instruction's text, each with its kind: mnemonic, register, number, size or rest."""
+    mnemonic = True
+    for found in PARTS.finditer(text):
+        kind, part = found.lastgroup or "rest", found.group()
+        if kind == "word":
+            if part.lstrip("%") in REGISTERS:
+                kind, mnemonic = "register", False
+            elif part in SIZES:
+                kind, mnemonic = "size", False
+            else:
+                kind = "mnemonic" if mnemonic else "rest"
+        elif not part.isspace():
+            mnemonic = False
+        yield kind, part
+
+
+def target_of(item: Item) -> Optional[int]:
+    """The address that an instruction names: its near target, or that of its operand at RIP; else None."""
+    if not isinstance(item, Instr):
+        return None
+    about = item.info()
+    return about.ip_address if about.target is None else about.target
+
+
+def relocation_in(program: Program, address: int, size: int) -> Optional[str]:
+    """The symbol that the linker will store in some bytes, None if there is none."""
+    if not program.is_object:
+        return None
+    return next((program.relocated[at] for at in range(address, address + size) if at in program.relocated), None)
+
+
+def beside(program: Program, item: Item) -> str:
+    """What is written after an instruction's text: the symbol of the address that it names, in angle brackets."""
+    if program.is_object:
+        name = relocation_in(program, item.address or 0, item.len)
+        if name is not None:
+            return f"<{name}>"
+    target = target_of(item)
+    symbol = None if target is None else program.symbol_of(target)
+    return "" if symbol is None else f"<{symbol}>"
+
+
+class Painter:
+    """Parts of a text, in colours or plain."""
+
+    def __init__(self, colours: bool) -> None:
+        self.colours = colours
+
+    def paint(self, kind: str, text: str) -> str:
+        return f"\x1b[{COLOURS[kind]}m{text}\x1b[0m" if self.colours and kind in COLOURS else text
+
+    def text(self, text: str) -> str:
+        """The text of an instruction."""
+        return "".join(self.paint(kind, part) for kind, part in parts_of(text)) if self.colours else text
+
+
+def wants_colours(choice: str, stream: TextIO = sys.stdout) -> bool:
+    """Whether output has colours: `always`, `never`, or `auto`, which means on a terminal unless NO_COLOR is set."""
+    return choice == "always" or choice == "auto" and stream.isatty() and "NO_COLOR" not in os.environ
+
+
+def span(kind: str, text: str) -> str:
+    """A part of a text as HTML."""
+    return html.escape(text) if kind == "rest" else f'<span class="{kind}">{html.escape(text)}</span>'

@@ -1,0 +1,206 @@
+#!/usr/bin/env python3
+"""Tests the inspector (python3 -m feddurzai) on programs that a C compiler makes here, against nm, objdump and what their source says.
+
+Usage: inspector.py PACKAGE LIBRARY, the folder of the Python package and the shared library. Required: gcc, binutils, pyelftools.
+"""
+
+import json
+import os
+import random
+import re
+import subprocess
+import sys
+import tempfile
+
+PACKAGE, LIBRARY = sys.argv[1:3]
+CC = os.environ.get("CC", "gcc")
+checks = 0
+
+SOURCE = """
+#include <stdio.h>
+static int table[256];
+int first(int x) { return x * 3 + 1; }
+int second(int x) __attribute__((alias("first")));
+__attribute__((noinline)) int choose(int n, int x)
+{
+    switch (n) {
+    case 0: return x + 5;
+    case 1: return x * 7;
+    case 2: return x - 9;
+    case 3: return x ^ 3;
+    case 4: return table[x & 255];
+    case 5: return x << 4;
+    case 6: return -x;
+    case 7: puts("seven"); return 7;
+    default: return n;
+    }
+}
+__attribute__((noinline)) int loop(int n)
+{
+    int sum = 0;
+    do { sum += n; } while (--n);
+    return sum;
+}
+__attribute__((target("avx2"), noinline)) static void wide(int *p) { for (int i = 0; i < 8; i++) p[i] += i; }
+__attribute__((noinline)) static void narrow(int *p) { for (int i = 0; i < 8; i++) p[i] += i; }
+static void (*resolve(void))(int *) { __builtin_cpu_init(); return __builtin_cpu_supports("avx2") ? wide : narrow; }
+void chosen(int *p) __attribute__((ifunc("resolve")));
+int main(int argc, char **argv)
+{
+    int some[8] = {argc};
+    chosen(some);
+    return choose(argc, first(argc)) + second(some[3]) + loop(argc);
+}
+"""
+
+
+def check(holds, words):
+    global checks
+    checks += 1
+    if not holds:
+        sys.exit(f"inspector.py: {words}")
+
+
+def run(*words):
+    """Runs the inspector: its status, output and errors."""
+    environment = {**os.environ, "PYTHONPATH": PACKAGE, "FEDDURZAI_LIBRARY": LIBRARY}
+    done = subprocess.run([sys.executable, "-m", "feddurzai", *words], env=environment, stdout=subprocess.PIPE, stderr=subprocess.PIPE, check=False)
+    return done.returncode, done.stdout.decode(errors="replace"), done.stderr.decode(errors="replace")
+
+
+def output(*words):
+    """The output of the inspector, which succeeds."""
+    status, out, err = run(*words)
+    check(status == 0 and not err, f"{' '.join(words)} ended with {status}: {err}")
+    return out
+
+
+def refused(wanted, *words):
+    """The inspector refuses with one line."""
+    status, out, err = run(*words)
+    check(status == 1 and err.count("\n") == 1 and re.search(wanted, err), f"{' '.join(words)} ended with {status}, {err!r}, not with {wanted}")
+
+
+def tool(*words):
+    return subprocess.run(words, stdout=subprocess.PIPE, stderr=subprocess.DEVNULL, check=True).stdout.decode(errors="replace")
+
+
+def instructions(file, name):
+    """The addresses of the instructions of a function, by objdump."""
+    found = tool("objdump", "-d", "--no-show-raw-insn", f"--disassemble={name}", file)
+    return [int(it, 16) for it in re.findall(r"^ +([0-9a-f]+):\t(?!nop|xchg +%ax,%ax|data16|cs nop|lea +0x0\(%esi)", found, re.M)]
+
+
+def tries_names(program, stripped, obj):
+    symbols = {}
+    for line in tool("nm", program).splitlines():
+        words = line.split()
+        if len(words) == 3 and words[1] in "tTiW":
+            symbols.setdefault(words[2], int(words[0], 16))
+    listed = {name: it["address"] for it in json.loads(output("list", program, "--json")) for name in it["names"]}
+    for name in ("first", "second", "choose", "loop", "main", "resolve"):
+        check(listed.get(name) == symbols[name], f"list has {name} at {listed.get(name)}, nm at {symbols[name]}")
+    for name in ("first", "second"):
+        check("<second>:" in output("list", program, name), f"list {name} does not show the alias")
+    for name in ("choose", "main"):
+        ours = [int(it, 16) for it in re.findall(r"^  ([0-9a-f]{16}) ", output("list", program, name), re.M)]
+        check(set(instructions(program, name)) <= set(ours), f"list {name} lacks instructions of objdump")
+    check("<puts>" in output("list", obj, "choose"), "the object file's call of puts has no name")
+    check("called from main" in output("list", program, "choose", "--callers"), "choose has no caller main")
+    at = f"{symbols['loop']:#x}"
+    check(len(output("list", stripped, at).splitlines()) >= len(instructions(program, "loop")), "the stripped file does not list a function by address")
+
+
+def tries_tables(program, name, where):
+    graph = json.loads(output("graph", program, name, "--json"))
+    check(not graph["unresolved"] and len(graph["tables"]) == 1, f"{where}: the jump table of {name} is not resolved: {graph['unresolved']}")
+    check(len(graph["tables"][0]["targets"]) == 8, f"{where}: the table has {len(graph['tables'][0]['targets'])} entries, not 8")
+    spans = [(it["start"], it["end"]) for it in graph["blocks"]]
+    for address in instructions(program, name):
+        check(any(start <= address < end for start, end in spans), f"{where}: {address:#x} is in no block")
+
+
+def tries_needs(program, folder):
+    found = json.loads(output("needs", program, "--json"))
+    check("AVX2" not in found["reached"]["features"], "the IFUNC variant counts as reached")
+    check(found["all"]["features"]["AVX2"]["function"] == "wide", "AVX2 is not found in the variant")
+    check((found["reached"]["level"], found["all"]["level"]) == (1, 3), f"the levels are {found['reached']['level']}, {found['all']['level']}")
+    check(found["resolvers"] == ["chosen"] or "resolve" in found["resolvers"], f"the resolvers are {found['resolvers']}")
+    tables = [output("needs", folder, "--csv", "--jobs", jobs) for jobs in ("1", "2", "3")]
+    check(tables[0] == tables[1] == tables[2], "the rows depend on the number of processes")
+    rows = tables[0].splitlines()
+    check(len(rows) > 4, f"needs of the folder has {len(rows)} rows")
+    check(sum(",damaged" in it or "a damaged ELF file" in it or "ELF file for" in it for it in rows) >= 1, "no row says what is wrong with a bad file")
+
+
+def tries_hooks(program):
+    answers = {it["names"][0]: it for it in json.loads(output("hookable", program, "--json"))}
+    check(answers["choose"]["taken"] >= 5 and answers["choose"]["sight"] == "whole", f"choose: {answers['choose']}")
+    check(answers["loop"]["cause"] is not None or answers["loop"]["taken"] >= 5, f"loop: {answers['loop']}")
+
+
+def tries_refusals(program, folder):
+    with open(program, "rb") as file:
+        good = file.read()
+    kept = os.path.join(folder, "kept.svg")
+    with open(kept, "w", encoding="utf-8") as file:
+        file.write("kept")
+    refused("no function and no code section is named 'nowhere'", "graph", program, "nowhere", "-o", kept)
+    with open(kept, encoding="utf-8") as file:
+        check(file.read() == "kept", "a refused graph has overwritten its file")
+    refused(r"a graph is written as \.svg", "graph", program, "main", "-o", os.path.join(folder, "x.gif"))
+    refused("No such file", "list", os.path.join(folder, "absent"))
+    refused("not an ELF file", "list", __file__)
+    refused("Is a directory", "list", folder)
+
+    def put(name, data):
+        path = os.path.join(folder, name)
+        with open(path, "wb") as file:
+            file.write(data)
+        return path
+
+    refused("an ELF file for AARCH64", "list", put("other", good[:18] + b"\xb7\x00" + good[20:]))
+    refused(".", "needs", put("short", good[:70]))
+    rng = random.Random(55)
+    for n in range(100):
+        spoiled = bytearray(good if n % 4 else good[: rng.randrange(len(good))])
+        for _ in range(rng.randrange(1, 20)):
+            at = rng.randrange(64) if n % 3 == 0 else rng.randrange(len(spoiled)) if spoiled else 0
+            if at < len(spoiled) and at >= 4:
+                spoiled[at] = rng.randrange(256)
+        status, _, err = run(("list", "needs", "hookable")[n % 3], put(f"spoiled{n}", bytes(spoiled)))
+        check(status in (0, 1) and "Traceback" not in err and err.count("\n") == (status == 1), f"spoiled file {n}: status {status}, {err[-300:]}")
+        os.unlink(os.path.join(folder, f"spoiled{n}"))
+
+
+def main():
+    with tempfile.TemporaryDirectory() as folder:
+        source = os.path.join(folder, "source.c")
+        with open(source, "w", encoding="utf-8") as file:
+            file.write(SOURCE)
+
+        def built(name, *flags):
+            path = os.path.join(folder, name)
+            subprocess.run([CC, "-O2", "-w", *flags, source, "-o", path], check=True)
+            return path
+
+        program, fixed, static = built("pie", "-fPIE", "-pie"), built("fixed", "-fno-pie", "-no-pie"), built("static", "-static")
+        obj = built("part.o", "-c")
+        stripped = os.path.join(folder, "stripped")
+        subprocess.run(["strip", "-o", stripped, program], check=True)
+        tries_names(program, stripped, obj)
+        tries_tables(program, "choose", "position-independent")
+        tries_tables(fixed, "choose", "fixed address")
+        try:
+            tries_tables(built("wide32", "-m32", "-fno-pie", "-no-pie"), "choose", "32-bit")
+        except subprocess.CalledProcessError:
+            print("skipped the 32-bit program: this compiler has no -m32")
+        tries_hooks(program)
+        tries_refusals(program, folder)
+        tries_needs(program, folder)
+        check("x86-64-v" in output("needs", static), "needs of a static program")
+    print(f"{checks} checks of the inspector, 100 spoiled files among them")
+
+
+if __name__ == "__main__":
+    main()
