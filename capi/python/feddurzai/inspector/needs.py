@@ -126,15 +126,18 @@ class _Survey:
         return any(it.section.contains(address) for it in self.items)
 
     def _variants(self) -> Set[int]:
-        """The addresses among which the resolvers of indirect functions choose: those that they take."""
-        found: Set[int] = set()
+        """The addresses among which the resolvers of indirect functions choose: those that they take.
+
+        A function that takes the address of a variant chooses too, or lists the variants; so the other addresses that it takes count as well.
+        """
+        taken: Dict[int, Set[int]] = {}
         for items in self.items:
             for offset, target, is_branch in items.references:
-                if not is_branch and self.in_code(target):
-                    function = self.function_at(items.section.start + offset)
-                    if function is not None and function.ifunc:
-                        found.add(target)
-        return found
+                function = None if is_branch or not self.in_code(target) else self.function_at(items.section.start + offset)
+                if function is not None:
+                    taken.setdefault(function.start, set()).add(target)
+        chosen = {target for start, targets in taken.items() if self.program.functions[start].ifunc for target in targets}
+        return chosen.union(*(targets for targets in taken.values() if targets & chosen))
 
     def reached_entries(self) -> Set[int]:
         """The entries of the functions that control can reach from the entry points. IFUNC variants are left out, unless code branches to them."""
