@@ -34,7 +34,7 @@ def row_of(path: str) -> Row:
     except Exception as error:
         row["error"] = f"{type(error).__name__}: {error}"
         return row
-    unread = sum(it.count for it in found.all.unread)
+    unread = sum(it.places for it in found.all.unread)
     row.update(
         bits=found.bits,
         level=found.reached.level() if found.bits == 64 else None,
@@ -93,17 +93,19 @@ def _by_processes(paths: Sequence[str], jobs: int) -> Iterator[Row]:
 def _by_cluster(paths: Sequence[str], address: str) -> Iterator[Row]:
     """The rows of some files, by the workers of a Dask scheduler. The workers must have this package, and see the files under the same names."""
     try:
-        from distributed import Client, as_completed
+        import distributed
     except ImportError:
         raise BadFile(NO_DASK) from None
+    # Dask has no type hints
+    dask: Any = distributed
     try:
-        client = Client(address, timeout=10)
+        client = dask.Client(address, timeout=10)
     except (OSError, ValueError) as error:
         raise BadFile(f"no Dask scheduler answers at {address}: {error}") from None
     with client:
         paths = _largest_first(paths)
         futures = dict(zip(client.map(row_of, paths, pure=False, retries=1), paths))
-        for future in as_completed(list(futures)):
+        for future in dask.as_completed(list(futures)):
             path = futures[future]
             if future.status == "finished":
                 yield future.result()
