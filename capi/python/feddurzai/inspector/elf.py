@@ -10,12 +10,13 @@ from typing import Any, BinaryIO, Dict, Iterable, List, NamedTuple, Optional, Se
 
 import feddurzai
 
+# pyelftools has no type hints; without it every file is refused with a line that says what to install
 try:
-    from elftools.common.exceptions import ELFError
-    from elftools.elf.constants import SH_FLAGS
-    from elftools.elf.elffile import ELFFile
-    from elftools.elf.relocation import RelocationSection
-    from elftools.elf.sections import SymbolTableSection
+    from elftools.common.exceptions import ELFError  # type: ignore
+    from elftools.elf.constants import SH_FLAGS  # type: ignore
+    from elftools.elf.elffile import ELFFile  # type: ignore
+    from elftools.elf.relocation import RelocationSection  # type: ignore
+    from elftools.elf.sections import SymbolTableSection  # type: ignore
 except ImportError:
     ELFFile = None
 
@@ -174,9 +175,9 @@ class Program:
             step = 8 if section.name == ".plt.got" and section.code[:2] == b"\xff\x25" else 16
             for at in range(0, len(section.code), step):
                 for item in feddurzai.iterate(self.bits, section.start + at, section.code[at : at + step]):
-                    slot = item.info().ip_address if isinstance(item, feddurzai.Instr) else None
-                    if slot is not None and slot in self.relocated:
-                        self._name(section.start + at, f"{self.relocated[slot]}@plt", step, True)
+                    target = item.info().ip_address if isinstance(item, feddurzai.Instr) else None
+                    if target is not None and target in self.relocated:
+                        self._name(section.start + at, f"{self.relocated[target]}@plt", step, True)
                         break
 
     def _take_frames(self) -> None:

@@ -13,6 +13,7 @@ from typing import Any, Callable, Dict, Iterator, List, Optional, Sequence, Tupl
 
 from .elf import BadFile, open_program
 from .needs import LEVELS, level_of, needs_of
+from .texts import counted
 
 COLUMNS = ("file", "bits", "level", "level_all", "features", "features_all", "unread", "functions", "ifuncs", "error")
 Row = Dict[str, Any]
@@ -34,7 +35,7 @@ def row_of(path: str) -> Row:
     except Exception as error:
         row["error"] = f"{type(error).__name__}: {error}"
         return row
-    unread = sum(it.count for it in found.all.unread)
+    unread = sum(it.places for it in found.all.unread)
     row.update(
         bits=found.bits,
         level=found.reached.level() if found.bits == 64 else None,
@@ -93,17 +94,19 @@ def _by_processes(paths: Sequence[str], jobs: int) -> Iterator[Row]:
 def _by_cluster(paths: Sequence[str], address: str) -> Iterator[Row]:
     """The rows of some files, by the workers of a Dask scheduler. The workers must have this package, and see the files under the same names."""
     try:
-        from distributed import Client, as_completed
+        import distributed
     except ImportError:
         raise BadFile(NO_DASK) from None
+    # Dask has no type hints
+    dask: Any = distributed
     try:
-        client = Client(address, timeout=10)
+        client = dask.Client(address, timeout=10)
     except (OSError, ValueError) as error:
         raise BadFile(f"no Dask scheduler answers at {address}: {error}") from None
     with client:
         paths = _largest_first(paths)
         futures = dict(zip(client.map(row_of, paths, pure=False, retries=1), paths))
-        for future in as_completed(list(futures)):
+        for future in dask.as_completed(list(futures)):
             path = futures[future]
             if future.status == "finished":
                 yield future.result()
@@ -157,7 +160,7 @@ def as_text(rows: Sequence[Row]) -> str:
 # ---- the page
 
 PAGE = """<!DOCTYPE html>
-<html lang="en"><head><meta charset="utf-8"><title>What {count} files need</title><style>
+<html lang="en"><head><meta charset="utf-8"><title>CPU features: {count}</title><style>
 :root {{ color-scheme: light dark; }}
 body {{ font: 15px/1.45 system-ui, sans-serif; margin: 1.5rem; color: #1f2328; background: #ffffff; }}
 h1 {{ font-size: 1.3rem; }} h2 {{ font-size: 1.05rem; margin-top: 2rem; }}
@@ -167,9 +170,9 @@ svg text {{ font: 12px ui-monospace, monospace; fill: currentColor; }}
 .reached {{ fill: #0969da; }} .all {{ fill: #9ec9ff; }} .error {{ color: #cf222e; }}
 @media (prefers-color-scheme: dark) {{ body {{ color: #e6edf3; background: #0d1117; }} .all {{ fill: #1f4a7d; }} .reached {{ fill: #58a6ff; }} }}
 </style></head><body>
-<h1>What {count} files need</h1>
+<h1>CPU features: {count}</h1>
 <p>Dark: code that control reaches from the entry points, without variants that a file chooses at run time (IFUNC). Light: all known code.
-{failed} files could not be read.</p>
+{failed} could not be read.</p>
 <h2>The least x86-64 level</h2>
 {levels}
 <h2>Features</h2>
@@ -213,5 +216,5 @@ def page_of(rows: Sequence[Row]) -> str:
         cells = [f"v{row[it]}" if row[it] else "32-bit" for it in ("level", "level_all")]
         lines.append(f"<tr><td>{cells[0]}</td><td>{cells[1]}</td><td>{html.escape(row['file'])}</td><td>{html.escape(above)}</td></tr>")
     return PAGE.format(
-        count=len(rows), failed=len(rows) - len(good), levels=_bars(levels, len(good)), features=_bars(features, len(good)), rows="\n".join(lines)
+        count=counted(len(rows), "file"), failed=counted(len(rows) - len(good), "file"), levels=_bars(levels, len(good)), features=_bars(features, len(good)), rows="\n".join(lines)
     )

@@ -47,7 +47,7 @@ class Unread(NamedTuple):
     """Reached places at which no instruction of the table starts, by what their bytes begin."""
 
     kind: str
-    count: int
+    places: int
     first: int
 
 
@@ -175,7 +175,7 @@ class _Survey:
             for at, kind in _reached(self.program, items, entries):
                 if kind:
                     old = unread.get(kind, Unread(kind, 0, items.section.start + at))
-                    unread[kind] = old._replace(count=old.count + 1)
+                    unread[kind] = old._replace(places=old.places + 1)
             starts = items.keys if entries is None else _starts(self.program, items, entries)
             count += len(starts)
             for feature, at in _features(self.program, items, starts).items():
@@ -283,7 +283,7 @@ def as_json(path: str, found: Needs) -> Dict[str, Any]:
             "level": it.level() if found.bits == 64 else None,
             "instructions": it.instructions,
             "features": {name: {"address": use.address, "function": use.function} for name, use in sorted(it.features.items())},
-            "unread": [{"kind": one.kind, "count": one.count, "first": one.first} for one in it.unread],
+            "unread": [{"kind": one.kind, "places": one.places, "first": one.first} for one in it.unread],
         }
 
     return {
@@ -305,7 +305,7 @@ def _words(part: Part, bits: int) -> List[str]:
         lines.append(f"    {level:3} {name:11} {use.address:0{width}x}  {use.function}")
     for it in part.unread:
         what = "EVEX (AVX-512, v4)" if it.kind == "EVEX" else f"{it.kind} without a row"
-        lines.append(f"    not read: {it.count} places, {what}, first at {it.first:0{width}x}")
+        lines.append(f"    not read: {it.places} places, {what}, first at {it.first:0{width}x}")
     return lines
 
 

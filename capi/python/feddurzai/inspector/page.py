@@ -11,7 +11,7 @@ from feddurzai import Instr, Item
 from .elf import BadFile, Function, Program
 from .graph import Graph, dot_of, drawn, graph_of
 from .scan import Xrefs
-from .texts import parts_of, relocation_in, span, target_of
+from .texts import counted, parts_of, relocation_in, span, target_of
 
 # a page of more instructions is too large for a browser
 MOST = 20000
@@ -101,8 +101,9 @@ def page_of(program: Program, function: Function, style: int, xrefs: Xrefs, most
         raise BadFile(f"{function.name} has {len(items)} instructions, and a page holds {most}: choose a function, or raise --limit")
     graph = graph_of(program, function)
     rows = _Rows(program, graph, items, style)
-    about = f"{len(code)} bytes at {function.start:#x}, {len(items)} instructions, {len(graph.blocks)} basic blocks reached from the first byte"
-    about += f" and through {len(graph.tables)} jump tables" if graph.tables else ""
+    about = f"{counted(len(code), 'byte')} at {function.start:#x}, {counted(len(items), 'instruction')}, "
+    about += f"{counted(len(graph.blocks), 'basic block')} reached from the first byte"
+    about += f" and through {counted(len(graph.tables), 'jump table')}" if graph.tables else ""
     about += ". Pale lines are not reached from there" + (", as far as is known: the targets of some jumps are unknown." if graph.unresolved else ".")
     notes = []
     if len(function.names) > 1:

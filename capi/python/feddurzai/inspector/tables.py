@@ -124,9 +124,11 @@ def _table_of(program: Program, before: Sequence[Instr], jump: Instr) -> Optiona
             found = _absolute(program, before[: list(before).index(load)], load.ops[1])
         else:
             found, size = _relative(program, before, operand), 4
-    if found is None or found[1] is None:
+    if found is None:
         return None
     at, count = found
+    if count is None:
+        return None
     targets = _entries(program, at, count, size)
     section = program.section_at(jump.address or 0)
     if not targets or section is None or not all(section.contains(target) for target in targets):

@@ -81,6 +81,11 @@ def wants_colours(choice: str, stream: TextIO = sys.stdout) -> bool:
     return choice == "always" or choice == "auto" and stream.isatty() and "NO_COLOR" not in os.environ
 
 
+def counted(number: int, thing: str) -> str:
+    """`1 file`, `2 files`."""
+    return f"{number} {thing}" if number == 1 else f"{number} {thing}s"
+
+
 def span(kind: str, text: str) -> str:
     """A part of a text as HTML."""
     return html.escape(text) if kind == "rest" else f'<span class="{kind}">{html.escape(text)}</span>'
