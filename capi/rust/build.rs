@@ -32,7 +32,9 @@ fn main() {
 fn fail(why: &str) -> ! {
     eprintln!("error: {}", why);
     eprintln!("libfeddurzai is required: install it so that `pkg-config --libs feddurzai` finds it,");
-    eprintln!("or name its folder in FEDDURZAI_LIB_DIR. FEDDURZAI_STATIC=1 links libfeddurzai.a, and 0 libfeddurzai.so.");
+    eprintln!(
+        "or name its folder in FEDDURZAI_LIB_DIR. FEDDURZAI_STATIC=1 links libfeddurzai.a, and 0 libfeddurzai.so."
+    );
     exit(1);
 }
 

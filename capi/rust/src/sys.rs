@@ -12,6 +12,7 @@
 
 use crate::error::Error;
 use crate::generated::INTERFACE;
+use core::fmt;
 use core::mem::MaybeUninit;
 use core::sync::atomic::{AtomicBool, Ordering};
 
@@ -34,7 +35,7 @@ macro_rules! structs {
         $(
             $(#[$about])*
             #[repr(C)]
-            #[derive(Clone, Copy, Debug, Default, PartialEq, Eq)]
+            #[derive(Clone, Copy, Debug, Default, PartialEq, Eq, Hash)]
             pub struct $name { $(pub $field: $kind,)* }
         )*
 
@@ -367,7 +368,16 @@ pub fn version() -> u32 {
     unsafe { feddurzai_version() }
 }
 
-/// A text of the library: ASCII, at most 160 bytes.
+/// A text of the library: ASCII, at most 160 bytes, as a `str`.
+///
+/// ```
+/// use feddurzai::{Code, Text};
+///
+/// let notation: Text = Code::Xor_rm32_r32.op_code().instruction()?;
+/// assert_eq!(notation, "o32 31 /r");
+/// assert!(notation.starts_with("o32"));
+/// # Ok::<(), feddurzai::Error>(())
+/// ```
 #[derive(Clone, Copy)]
 pub struct Text {
     bytes: [MaybeUninit<u8>; MAX_TEXT],
@@ -376,6 +386,7 @@ pub struct Text {
 
 impl Text {
     /// An empty text.
+    #[must_use]
     #[inline]
     pub fn new() -> Text {
         Text { bytes: [MaybeUninit::uninit(); MAX_TEXT], len: 0 }
@@ -401,20 +412,72 @@ impl Text {
         status
     }
 
+    /// Sets the text of bytes that are no instruction: `(bad)`.
+    pub(crate) fn set_bad(&mut self) {
+        const BAD: &[u8] = b"(bad)";
+        self.bytes.iter_mut().zip(BAD).for_each(|(to, from)| *to = MaybeUninit::new(*from));
+        self.len = BAD.len();
+    }
+
     /// The bytes of the text.
     #[inline]
-    pub fn as_bytes(&self) -> &[u8] {
-        // SAFETY: only `filled` sets `len` above 0, to the number of bytes that a function of the library wrote to the front
-        // of the buffer, and to at most its size.
+    fn written(&self) -> &[u8] {
+        // SAFETY: `len` is the number of bytes that a function of the library, or `set_bad`, has written to the front of the
+        // buffer, and at most its size.
         unsafe { core::slice::from_raw_parts(self.bytes.as_ptr().cast(), self.len) }
     }
 
     /// The text.
+    #[must_use]
     #[inline]
     pub fn as_str(&self) -> &str {
-        debug_assert!(self.as_bytes().is_ascii());
-        // SAFETY: the texts of the library are ASCII.
-        unsafe { core::str::from_utf8_unchecked(self.as_bytes()) }
+        core::str::from_utf8(self.written()).unwrap_or("")
+    }
+}
+
+impl Default for Text {
+    fn default() -> Text {
+        Text::new()
+    }
+}
+
+impl core::ops::Deref for Text {
+    type Target = str;
+
+    fn deref(&self) -> &str {
+        self.as_str()
+    }
+}
+
+impl PartialEq for Text {
+    fn eq(&self, other: &Text) -> bool {
+        self.as_str() == other.as_str()
+    }
+}
+
+impl Eq for Text {}
+
+impl PartialEq<str> for Text {
+    fn eq(&self, other: &str) -> bool {
+        self.as_str() == other
+    }
+}
+
+impl PartialEq<&str> for Text {
+    fn eq(&self, other: &&str) -> bool {
+        self.as_str() == *other
+    }
+}
+
+impl fmt::Display for Text {
+    fn fmt(&self, f: &mut fmt::Formatter<'_>) -> fmt::Result {
+        f.pad(self.as_str())
+    }
+}
+
+impl fmt::Debug for Text {
+    fn fmt(&self, f: &mut fmt::Formatter<'_>) -> fmt::Result {
+        fmt::Debug::fmt(self.as_str(), f)
     }
 }
 
@@ -678,9 +741,7 @@ impl Library {
     ) -> i32 {
         // SAFETY: each slice has as many elements as its length says, `report` is a struct of the header, and no argument
         // that is written overlaps another.
-        unsafe {
-            feddurzai_step(bits, old_ip, bytes.as_ptr(), bytes.len(), place, out.as_mut_ptr(), out.len(), report)
-        }
+        unsafe { feddurzai_step(bits, old_ip, bytes.as_ptr(), bytes.len(), place, out.as_mut_ptr(), out.len(), report) }
     }
 
     pub fn step_len(self, bits: u32, old_ip: u64, bytes: &[u8], base: u64) -> i32 {
