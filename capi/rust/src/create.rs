@@ -11,7 +11,8 @@ const SHORTEST: u8 = 255;
 
 /// Constructors. Each checks that the row of the code takes the operands.
 ///
-/// A near target that is out of reach and an instruction that is too long are reported when it is encoded.
+/// A near target that is out of reach is reported when the instruction is encoded. Its mode is the widest in which it can be
+/// encoded; [`Instruction::set_bitness`] changes it.
 impl Instruction {
     /// An instruction without operands.
     ///
@@ -200,6 +201,8 @@ fn set_memory(op: &mut sys::Operand, memory: &MemoryOperand) {
     op.scale = u8::try_from(memory.scale).unwrap_or(0);
     op.value = memory.displacement as u64;
     op.disp_bits = match memory.displ_size {
+        // some bases have no form without a displacement
+        0 if memory.displacement == 0 => SHORTEST,
         1 => SHORTEST,
         size @ (0 | 2 | 4 | 8) => size as u8 * 8,
         // no address has this width: the encoder refuses it
@@ -216,7 +219,7 @@ fn fails(found: Option<Error>, wanted: Cause) -> bool {
     matches!(found, Some(Error::NoEncoding { cause, .. }) if cause == wanted)
 }
 
-/// Makes an instruction, and checks it.
+/// Makes an instruction, and checks it. Its mode is the widest in which it can be encoded.
 fn made(code: Code, operands: &[Operand]) -> Result<Instruction, Error> {
     let library = Library::get()?;
     if code == Code::INVALID {
@@ -233,21 +236,27 @@ fn made(code: Code, operands: &[Operand]) -> Result<Instruction, Error> {
             raw.segment = memory.segment_prefix.prefix();
         }
     }
-    // the widest mode that has the row
-    let of_code = |bits: &u8| !fails(cause_of(library, *bits, &raw), Cause::Row);
-    let bits = [64, 32, 16].iter().copied().find(of_code).unwrap_or(64);
+    let mut refused = None;
+    for bits in [64, 32, 16] {
+        match made_in(library, bits, raw) {
+            Ok(raw) => return Ok(Instruction { raw, ip: 0, bytes: [0; MAX_LEN], mode: bits }),
+            Err(found) if fails(Some(found), Cause::Row) => {}
+            Err(found) => refused = refused.or(Some(found)),
+        }
+    }
+    Err(refused.unwrap_or(Error::NoEncoding { cause: Cause::Row, operand: None }))
+}
+
+/// Completes the struct of an instruction in a mode, and checks it.
+fn made_in(library: Library, bits: u8, mut raw: sys::Instr) -> Result<sys::Instr, Error> {
     set_address_size(library, bits, &mut raw);
     set_immediates(library, bits, &mut raw);
     set_displacement(library, bits, &mut raw);
-    let mut instruction = Instruction { raw, ip: 0, bytes: [0; MAX_LEN], mode: bits };
     match cause_of(library, bits, &raw) {
-        // they depend on the address, or on prefixes that are added later
-        Some(found) if fails(Some(found), Cause::Target) || fails(Some(found), Cause::Length) => {}
-        Some(refused) => return Err(refused),
-        None => {}
+        // a target is checked where the instruction is encoded, when its address is known
+        Some(found) if !fails(Some(found), Cause::Target) => Err(found),
+        _ => Ok(raw),
     }
-    instruction.raw.len = 0;
-    Ok(instruction)
 }
 
 /// Sets the address size, if no register of the memory operand determines it, and cuts the displacement to it.
@@ -266,18 +275,19 @@ fn set_address_size(library: Library, bits: u8, raw: &mut sys::Instr) {
     }
 }
 
-/// Cuts negative immediates to the size of the row's immediate.
+/// Cuts negative immediates to the size of the row's immediate, the widest that the encoder accepts.
 fn set_immediates(library: Library, bits: u8, raw: &mut sys::Instr) {
     for at in 0..raw.ops.len() {
         for width in [64, 32, 16, 8] {
             let mut tried = *raw;
             match tried.ops.get_mut(at) {
-                Some(op) if op.kind == 3 && (op.value as i64) < 0 => op.value &= u64::MAX >> (64 - width),
+                Some(op) if op.kind == 3 && (op.value as i64) < 0 && (op.value as i64) >= -1 << (width - 1) => {
+                    op.value &= u64::MAX >> (64 - width);
+                }
                 _ => break,
             }
             let found = cause_of(library, bits, &tried);
-            let is_here =
-                matches!(found, Some(Error::NoEncoding { operand: Some(operand), .. }) if operand as usize == at);
+            let is_here = matches!(found, Some(Error::NoEncoding { operand: Some(operand), .. }) if operand as usize == at);
             if !(is_here && fails(found, Cause::Immediate)) {
                 *raw = tried;
                 break;

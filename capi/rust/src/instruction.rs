@@ -153,7 +153,7 @@ impl Instruction {
         self.bytes.get(..len).unwrap_or(&[])
     }
 
-    /// Its mode: 16, 32 or 64. A constructed instruction has the widest mode in which its row exists.
+    /// Its mode: 16, 32 or 64. A constructed instruction has the widest mode in which it can be encoded.
     #[must_use]
     #[inline]
     pub const fn bitness(&self) -> u32 {
