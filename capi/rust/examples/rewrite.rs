@@ -129,7 +129,8 @@ pub fn listing(instructions: &[Instruction]) -> Result<String, std::fmt::Error> 
         formatter.format(instruction, &mut output);
         let bytes: String = instruction.bytes().iter().map(|byte| format!("{:02x}", byte)).collect();
         let remark = remark(&mut factory, instruction);
-        writeln!(out, "{:8x} {:<14} {:<26} ; {}", instruction.ip(), bytes, output.text, remark)?;
+        let line = format!("{:8x} {:<14} {:<26} ; {}", instruction.ip(), bytes, output.text, remark);
+        writeln!(out, "{}", line.trim_end_matches([' ', ';']))?;
     }
     Ok(out)
 }

@@ -231,7 +231,7 @@ pub trait Formatter {
 
     /// Writes the prefix words and the mnemonic.
     fn format_mnemonic(&mut self, instruction: &Instruction, output: &mut dyn FormatterOutput) {
-        write_parts(self.syntax(), instruction, &mut Parts(output), |part| !part.is_operand);
+        write_parts(self.syntax(), instruction, &mut Parts(output), |part| part.is_name);
     }
 
     /// Writes the operands.
@@ -322,7 +322,16 @@ struct Part<'a> {
     kind: FormatterTextKind,
     register: Register,
     value: u64,
+    is_name: bool,
     is_operand: bool,
+}
+
+impl Part<'_> {
+    /// A part without text, of the name or of the operands.
+    fn new(is_operand: bool) -> Self {
+        let kind = FormatterTextKind::Text;
+        Part { text: "", kind, register: Register::None, value: 0, is_name: !is_operand, is_operand }
+    }
 }
 
 /// Writes the text of an instruction: whole if the output takes it, else those parts that are wanted.
@@ -335,7 +344,9 @@ fn write_parts(
     let text = match instruction.text(syntax) {
         Ok(text) => text,
         Err(_) => {
-            output.write_mnemonic(instruction, "(bad)");
+            if wants(&Part::new(false)) {
+                output.write_mnemonic(instruction, "(bad)");
+            }
             return;
         }
     };
@@ -384,17 +395,12 @@ impl<'a> Splitter<'a> {
 
     fn next_part(&mut self) -> Option<Part<'a>> {
         let first = self.rest.bytes().next()?;
-        let mut part = Part {
-            text: "",
-            kind: FormatterTextKind::Text,
-            register: Register::None,
-            value: 0,
-            is_operand: self.is_operand,
-        };
+        let mut part = Part::new(self.is_operand);
         match first {
             b' ' => {
                 part.text = self.take(1);
-                // the space after the mnemonic belongs to neither
+                // the space after the mnemonic is neither
+                part.is_name = !self.is_named;
                 self.is_operand = self.is_named;
             }
             b'+' | b'-' | b'*' | b'$' => {
@@ -439,9 +445,13 @@ impl<'a> Splitter<'a> {
 
     /// The value of a number of the style.
     fn value_of(&self, word: &str) -> u64 {
-        let digits =
-            if self.syntax == FormatterSyntax::Masm { word.strip_suffix('h') } else { word.strip_prefix("0x") };
-        digits.and_then(|digits| u64::from_str_radix(digits, 16).ok()).unwrap_or(0)
+        let digits = match self.syntax {
+            FormatterSyntax::Masm => word.strip_suffix('h'),
+            _ => word.strip_prefix("0x"),
+        };
+        // a scale is a digit alone
+        let value = digits.map_or_else(|| word.parse(), |digits| u64::from_str_radix(digits, 16));
+        value.unwrap_or(0)
     }
 
     fn kind_of_number(&self, value: u64) -> FormatterTextKind {
