@@ -65,6 +65,8 @@ pub struct Decoder<'a> {
     data: &'a [u8],
     position: usize,
     ip: u64,
+    /// The addresses of the mode.
+    mask: u64,
     library: Option<Library>,
     mode: u8,
     last_error: DecoderError,
@@ -87,6 +89,7 @@ impl<'a> Decoder<'a> {
             data,
             position: 0,
             ip,
+            mask: u64::MAX,
             library: None,
             mode: 64,
             last_error: DecoderError::Unusable,
@@ -115,7 +118,8 @@ impl<'a> Decoder<'a> {
     /// Those of [`Decoder::try_new`].
     pub fn try_with_ip(bitness: u32, data: &'a [u8], ip: u64, _: DecoderOptions) -> Result<Decoder<'a>, Error> {
         let (mode, library) = (checked_mode(bitness)?, Library::get()?);
-        Ok(Decoder { data, position: 0, ip, library: Some(library), mode, last_error: DecoderError::None })
+        let mask = mask_of(bitness);
+        Ok(Decoder { data, position: 0, ip, mask, library: Some(library), mode, last_error: DecoderError::None })
     }
 
     /// The mode: 16, 32 or 64.
@@ -127,7 +131,7 @@ impl<'a> Decoder<'a> {
     /// The address of the next instruction.
     #[must_use]
     pub fn ip(&self) -> u64 {
-        self.ip & mask_of(self.bitness())
+        self.ip & self.mask
     }
 
     /// Sets the address of the next instruction. The position stays.
@@ -278,11 +282,12 @@ impl<'a> Decoder<'a> {
     /// Gives an instruction its address and its bytes, and goes to the next one.
     #[inline]
     fn place(&mut self, instruction: &mut Instruction, rest: &[u8]) {
-        instruction.ip = self.ip & mask_of(self.bitness());
+        instruction.ip = self.ip & self.mask;
         instruction.mode = self.mode | HAS_BYTES;
-        match rest.get(..MAX_LEN) {
-            Some(window) => instruction.bytes.copy_from_slice(window),
-            None => instruction.bytes.iter_mut().zip(rest).for_each(|(to, from)| *to = *from),
+        // a copy of a fixed size is two moves
+        match rest.get(..MAX_LEN).map(<[u8; MAX_LEN]>::try_from) {
+            Some(Ok(window)) => instruction.bytes = window,
+            _ => keep_last(&mut instruction.bytes, rest),
         }
         self.position += instruction.len();
         self.ip = self.ip.wrapping_add(instruction.len() as u64);
@@ -313,6 +318,13 @@ impl<'a> Decoder<'a> {
     pub fn get_constant_offsets(&self, instruction: &Instruction) -> ConstantOffsets {
         ConstantOffsets::of(instruction.bitness(), instruction.bytes()).unwrap_or_default()
     }
+}
+
+/// Copies the last bytes of some code, which are fewer than an instruction may have.
+#[cold]
+#[inline(never)]
+fn keep_last(bytes: &mut [u8; MAX_LEN], rest: &[u8]) {
+    bytes.iter_mut().zip(rest).for_each(|(to, from)| *to = *from);
 }
 
 /// The codes of items at which no instruction begins, in `feddurzai.h`.

@@ -42,8 +42,18 @@ impl Instruction {
     /// [`Error::BadInstruction`] or [`Error::BadForm`].
     pub fn text(&self, syntax: FormatterSyntax) -> Result<Text, Error> {
         let mut text = Text::new();
-        taken(Library::get()?.text(self.bitness(), syntax as u32, &self.raw, &mut text))?;
+        self.write_text(syntax, &mut text)?;
         Ok(text)
+    }
+
+    /// Writes its text in a style over another text, which is faster than [`Instruction::text`].
+    ///
+    /// # Errors
+    ///
+    /// [`Error::BadInstruction`] or [`Error::BadForm`]; then the text is empty.
+    #[inline]
+    pub fn write_text(&self, syntax: FormatterSyntax, text: &mut Text) -> Result<(), Error> {
+        taken(Library::get()?.text(self.bitness(), syntax as u32, &self.raw, text)).map(|_| ())
     }
 
     /// The name of the segment register of its prefix, in a style.
@@ -225,18 +235,25 @@ pub trait Formatter {
     fn syntax(&self) -> FormatterSyntax;
 
     /// Writes the text of an instruction, `(bad)` for something that is no instruction.
+    #[inline]
     fn format(&mut self, instruction: &Instruction, output: &mut dyn FormatterOutput) {
-        write_parts(self.syntax(), instruction, output, |_| true);
+        let mut text = Text::new();
+        if instruction.write_text(self.syntax(), &mut text).is_err() {
+            text.set_bad();
+        }
+        if !output.write_whole(text.as_str()) {
+            write_parts(self.syntax(), instruction, output, |_| true);
+        }
     }
 
     /// Writes the prefix words and the mnemonic.
     fn format_mnemonic(&mut self, instruction: &Instruction, output: &mut dyn FormatterOutput) {
-        write_parts(self.syntax(), instruction, &mut Parts(output), |part| part.is_name);
+        write_parts(self.syntax(), instruction, output, |part| part.is_name);
     }
 
     /// Writes the operands.
     fn format_all_operands(&mut self, instruction: &Instruction, output: &mut dyn FormatterOutput) {
-        write_parts(self.syntax(), instruction, &mut Parts(output), |part| part.is_operand);
+        write_parts(self.syntax(), instruction, output, |part| part.is_operand);
     }
 
     /// The name of a register, empty for [`Register::None`].
@@ -291,31 +308,6 @@ formatters! {
 /// Intel's style is that of NASM.
 pub type NasmFormatter = IntelFormatter;
 
-/// An output that receives parts alone.
-struct Parts<'a>(&'a mut dyn FormatterOutput);
-
-impl FormatterOutput for Parts<'_> {
-    fn write(&mut self, text: &str, kind: FormatterTextKind) {
-        self.0.write(text, kind);
-    }
-
-    fn write_prefix(&mut self, instruction: &Instruction, text: &str) {
-        self.0.write_prefix(instruction, text);
-    }
-
-    fn write_mnemonic(&mut self, instruction: &Instruction, text: &str) {
-        self.0.write_mnemonic(instruction, text);
-    }
-
-    fn write_register(&mut self, instruction: &Instruction, text: &str, register: Register) {
-        self.0.write_register(instruction, text, register);
-    }
-
-    fn write_number(&mut self, instruction: &Instruction, text: &str, value: u64, kind: FormatterTextKind) {
-        self.0.write_number(instruction, text, value, kind);
-    }
-}
-
 /// A part of a text.
 struct Part<'a> {
     text: &'a str,
@@ -334,7 +326,7 @@ impl Part<'_> {
     }
 }
 
-/// Writes the text of an instruction: whole if the output takes it, else those parts that are wanted.
+/// Writes those parts of the text of an instruction that are wanted.
 fn write_parts(
     syntax: FormatterSyntax,
     instruction: &Instruction,
@@ -350,9 +342,6 @@ fn write_parts(
             return;
         }
     };
-    if output.write_whole(text.as_str()) {
-        return;
-    }
     let mut splitter = Splitter { rest: text.as_str(), syntax, instruction, is_named: false, is_operand: false };
     while let Some(part) = splitter.next_part() {
         if !wants(&part) {

@@ -431,7 +431,9 @@ impl Text {
     #[must_use]
     #[inline]
     pub fn as_str(&self) -> &str {
-        core::str::from_utf8(self.written()).unwrap_or("")
+        debug_assert!(self.written().is_ascii());
+        // SAFETY: the texts of the library are ASCII: the contracts of its printers name the bytes.
+        unsafe { core::str::from_utf8_unchecked(self.written()) }
     }
 }
 
