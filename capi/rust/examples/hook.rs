@@ -74,7 +74,8 @@ pub mod live {
 
         let mut results = [triple(7), 0, 0];
         let place = trampoline.as_ptr() as u64;
-        let detour = Detour::new(64, ip, super::TRIPLE, replacement as *const c_void as u64, place, DetourStart::Moved)?;
+        let detour =
+            Detour::new(64, ip, super::TRIPLE, replacement as *const c_void as u64, place, DetourStart::Moved)?;
         trampoline[..detour.trampoline().len()].copy_from_slice(detour.trampoline());
         TRAMPOLINE.store(trampoline.as_ptr() as usize, Ordering::SeqCst);
         // no thread runs in the function: this program has one

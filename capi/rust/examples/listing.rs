@@ -18,7 +18,13 @@ fn write_byte(out: &mut impl Write, syntax: FormatterSyntax, byte: u8) -> io::Re
 }
 
 /// Lists some code.
-pub fn list(code: &[u8], bitness: u32, ip: u64, syntax: FormatterSyntax, out: &mut impl Write) -> Result<(), Box<dyn Error>> {
+pub fn list(
+    code: &[u8],
+    bitness: u32,
+    ip: u64,
+    syntax: FormatterSyntax,
+    out: &mut impl Write,
+) -> Result<(), Box<dyn Error>> {
     let mut decoder = Decoder::try_with_ip(bitness, code, ip, DecoderOptions::NONE)?;
     let (mut instruction, mut text) = (Instruction::default(), Text::new());
     let digits = bitness as usize / 4;

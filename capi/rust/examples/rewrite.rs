@@ -6,9 +6,9 @@
 //! encoder and the block encoder. Without a file it rewrites a function of its own.
 
 use feddurzai::{
-    BlockEncoder, BlockEncoderOptions, Code, Decoder, DecoderOptions, Encoder, Formatter, FormatterOutput,
-    FormatterTextKind, FlowControl, Instruction, InstructionBlock, InstructionInfoFactory, IntelFormatter, MovedForm,
-    OpAccess, OpKind, Register, RflagsBits,
+    BlockEncoder, BlockEncoderOptions, Code, Decoder, DecoderOptions, Encoder, FlowControl, Formatter, FormatterOutput,
+    FormatterTextKind, Instruction, InstructionBlock, InstructionInfoFactory, IntelFormatter, MovedForm, OpAccess,
+    OpKind, Register, RflagsBits,
 };
 use std::collections::BTreeMap;
 use std::error::Error;
@@ -27,8 +27,7 @@ pub static FUNCTION: &[u8] = &[
 ];
 
 /// The flags that arithmetic changes.
-const STATUS: u32 =
-    RflagsBits::OF | RflagsBits::SF | RflagsBits::ZF | RflagsBits::AF | RflagsBits::PF | RflagsBits::CF;
+const STATUS: u32 = RflagsBits::OF | RflagsBits::SF | RflagsBits::ZF | RflagsBits::AF | RflagsBits::PF | RflagsBits::CF;
 
 /// Decodes a function. Bytes that are no instruction are an error.
 pub fn read_function(ip: u64, code: &[u8]) -> Result<Vec<Instruction>, feddurzai::Error> {
@@ -105,7 +104,8 @@ fn remark(factory: &mut InstructionInfoFactory, instruction: &Instruction) -> St
     if info.rflags_modified() & STATUS != 0 {
         words.push("changes flags".to_string());
     }
-    let stored: usize = info.used_memory().iter().filter(|used| used.access().writes()).map(|used| used.memory_size()).sum();
+    let stored: usize =
+        info.used_memory().iter().filter(|used| used.access().writes()).map(|used| used.memory_size()).sum();
     if stored != 0 {
         words.push(format!("stores {} bytes", stored));
     }

@@ -28,8 +28,10 @@ impl FormatterOutput for SymbolOutput<'_> {
 
 /// The texts of three instructions with their symbols.
 pub fn with_symbols() -> Vec<String> {
-    let symbols: HashMap<u64, String> =
-        [(0x5AA5_5AA5, "my_data"), (0x2000, "main"), (0x100F, "done")].iter().map(|&(at, name)| (at, name.to_string())).collect();
+    let symbols: HashMap<u64, String> = [(0x5AA5_5AA5, "my_data"), (0x2000, "main"), (0x100F, "done")]
+        .iter()
+        .map(|&(at, name)| (at, name.to_string()))
+        .collect();
     // mov rcx, [rel 0x5AA55AA5]; call 0x2000; jmp 0x100F
     let code = b"\x48\x8B\x0D\x9E\x4A\xA5\x5A\xE8\xF4\x0F\x00\x00\xEB\x01\x90\xC3";
     let mut formatter = NasmFormatter::new();

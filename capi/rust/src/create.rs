@@ -287,7 +287,8 @@ fn set_immediates(library: Library, bits: u8, raw: &mut sys::Instr) {
                 _ => break,
             }
             let found = cause_of(library, bits, &tried);
-            let is_here = matches!(found, Some(Error::NoEncoding { operand: Some(operand), .. }) if operand as usize == at);
+            let is_here =
+                matches!(found, Some(Error::NoEncoding { operand: Some(operand), .. }) if operand as usize == at);
             if !(is_here && fails(found, Cause::Immediate)) {
                 *raw = tried;
                 break;

@@ -1,5 +1,6 @@
 //! Why a call is refused.
 
+#[cfg(feature = "alloc")]
 use crate::sys;
 use core::fmt;
 
@@ -250,7 +251,7 @@ impl Error {
     fn of_encoding(status: i32) -> Error {
         let number = status.wrapping_neg();
         match Cause::of(number >> 8) {
-            Some(cause) => Error::NoEncoding { cause, operand: cause.is_of_operand().then(|| (number & 255) as u32) },
+            Some(cause) => Error::NoEncoding { cause, operand: cause.is_of_operand().then_some((number & 255) as u32) },
             None => Error::Other { status },
         }
     }

@@ -32,11 +32,7 @@ fn instructions_are_those_of_objdump() {
             &[register(R::EAX), memory(none, none, 1, 0x28, 4, R::FS)],
         ),
         (b"\x83\xC0\x05", Mnemonic::Add, &[register(R::EAX), immediate(5)]),
-        (
-            b"\xF0\x0F\xC1\x4C\xB7\xF8",
-            Mnemonic::Xadd,
-            &[memory(R::RDI, R::RSI, 4, -8, 1, none), register(R::ECX)],
-        ),
+        (b"\xF0\x0F\xC1\x4C\xB7\xF8", Mnemonic::Xadd, &[memory(R::RDI, R::RSI, 4, -8, 1, none), register(R::ECX)]),
         (b"\xFF\xE0", Mnemonic::Jmp, &[register(R::RAX)]),
         (b"\xFF\x25\x10\x00\x00\x00", Mnemonic::Jmp, &[memory(R::RIP, none, 1, 0x16, 4, none)]),
         (
@@ -44,11 +40,7 @@ fn instructions_are_those_of_objdump() {
             Mnemonic::Vaddps,
             &[register(R::YMM1), register(R::YMM2), memory(R::RAX, none, 1, 0, 0, none)],
         ),
-        (
-            b"\x0F\xB6\x8B\x80\x00\x00\x00",
-            Mnemonic::Movzx,
-            &[register(R::ECX), memory(R::RBX, none, 1, 0x80, 4, none)],
-        ),
+        (b"\x0F\xB6\x8B\x80\x00\x00\x00", Mnemonic::Movzx, &[register(R::ECX), memory(R::RBX, none, 1, 0x80, 4, none)]),
         (b"\x48\x6B\xC1\x64", Mnemonic::Imul, &[register(R::RAX), register(R::RCX), immediate(0x64)]),
         (b"\xD3\xE2", Mnemonic::Shl, &[register(R::EDX), register(R::CL)]),
         (b"\xDC\xC1", Mnemonic::Fadd, &[register(R::ST1), register(R::ST0)]),
@@ -59,11 +51,7 @@ fn instructions_are_those_of_objdump() {
             Mnemonic::Mov,
             &[register(R::RAX), immediate(0x1122_3344_5566_7788)],
         ),
-        (
-            b"\x66\x41\x0F\x70\xC1\x1B",
-            Mnemonic::Pshufd,
-            &[register(R::XMM0), register(R::XMM9), immediate(0x1B)],
-        ),
+        (b"\x66\x41\x0F\x70\xC1\x1B", Mnemonic::Pshufd, &[register(R::XMM0), register(R::XMM9), immediate(0x1B)]),
         (b"\x4D\x0F\x45\xC1", Mnemonic::Cmovne, &[register(R::R8), register(R::R9)]),
         (b"\xC8\x10\x00\x02", Mnemonic::Enter, &[immediate(0x10), immediate(2)]),
         (b"\x41\x0F\xCC", Mnemonic::Bswap, &[register(R::R12D)]),
@@ -235,7 +223,10 @@ fn constants_have_offsets() {
     let offsets = decoder.get_constant_offsets(&mov);
     assert_eq!((offsets.displacement_offset(), offsets.displacement_size()), (4, 4));
     assert_eq!((offsets.immediate_offset(), offsets.immediate_size(), offsets.immediate_size2()), (8, 2, 0));
-    assert_eq!((offsets.prefixes().size, offsets.opcode().offset, offsets.modrm().offset, offsets.sib().offset), (1, 1, 2, 3));
+    assert_eq!(
+        (offsets.prefixes().size, offsets.opcode().offset, offsets.modrm().offset, offsets.sib().offset),
+        (1, 1, 2, 3)
+    );
     assert!(offsets.has_displacement() && offsets.has_immediate() && offsets.lead().size == 0);
     // enter 0x10, 0x2 has two
     let mut decoder = Decoder::new(64, b"\xC8\x10\x00\x02", DecoderOptions::NONE);
@@ -247,12 +238,21 @@ fn constants_have_offsets() {
 #[test]
 fn getters_of_what_is_absent() {
     let nop = decode(64, 0, b"\x90");
-    assert_eq!((nop.op_kind(0), nop.op_kind(u32::MAX), nop.op_register(9)), (OpKind::None, OpKind::None, Register::None));
+    assert_eq!(
+        (nop.op_kind(0), nop.op_kind(u32::MAX), nop.op_register(9)),
+        (OpKind::None, OpKind::None, Register::None)
+    );
     assert_eq!((nop.operand(0), nop.operand(u32::MAX), nop.immediate(3)), (None, None, 0));
     assert_eq!((nop.memory_base(), nop.memory_index(), nop.memory_index_scale()), (Register::None, Register::None, 1));
     assert_eq!((nop.near_branch_target(), nop.ip_rel_memory_address(), nop.far_branch_selector()), (0, 0, 0));
     assert_eq!((nop.memory_size(), nop.segment_prefix(), nop.immediate64()), (0, Register::None, 0));
     let none = Instruction::new();
-    assert_eq!((none.len(), none.bytes(), none.code(), none.mnemonic()), (0, &[][..], Code::INVALID, Mnemonic::INVALID));
-    assert_eq!((none.flow_control(), none.rflags_modified(), none.cpuid_features().is_empty()), (FlowControl::Next, 0, true));
+    assert_eq!(
+        (none.len(), none.bytes(), none.code(), none.mnemonic()),
+        (0, &[][..], Code::INVALID, Mnemonic::INVALID)
+    );
+    assert_eq!(
+        (none.flow_control(), none.rflags_modified(), none.cpuid_features().is_empty()),
+        (FlowControl::Next, 0, true)
+    );
 }

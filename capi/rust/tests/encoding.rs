@@ -67,10 +67,7 @@ fn memory_has_every_form() {
     let lea = |memory: MemoryOperand| bytes_of(Instruction::with2(Code::Lea_r64_m, R::RAX, memory));
     assert_eq!(lea(MemoryOperand::with_base_index(R::RBX, R::RCX)), b"\x48\x8D\x04\x0B");
     assert_eq!(lea(MemoryOperand::with_base_index_scale(R::RBX, R::R9, 8)), b"\x4A\x8D\x04\xCB");
-    assert_eq!(
-        lea(MemoryOperand::with_base_index_scale_displ_size(R::RBX, R::RCX, 4, -8, 1)),
-        b"\x48\x8D\x44\x8B\xF8"
-    );
+    assert_eq!(lea(MemoryOperand::with_base_index_scale_displ_size(R::RBX, R::RCX, 4, -8, 1)), b"\x48\x8D\x44\x8B\xF8");
     // a displacement of 4 bytes although 1 is enough
     assert_eq!(
         lea(MemoryOperand::with_base_index_scale_displ_size(R::RBX, R::RCX, 4, -8, 4)),
@@ -92,10 +89,7 @@ fn memory_has_every_form() {
     assert_eq!(mov.encoded(16, 0).as_deref(), Ok(&b"\x8B\x00"[..]));
     assert_eq!(mov.set_bitness(20), Err(Error::BadMode));
     let fs = MemoryOperand::new(R::None, R::None, 1, 0x28, 4, R::FS);
-    assert_eq!(
-        bytes_of(Instruction::with2(Code::Mov_r32_rm32, R::EAX, fs)),
-        b"\x64\x8B\x04\x25\x28\x00\x00\x00"
-    );
+    assert_eq!(bytes_of(Instruction::with2(Code::Mov_r32_rm32, R::EAX, fs)), b"\x64\x8B\x04\x25\x28\x00\x00\x00");
 }
 
 #[test]
@@ -155,7 +149,10 @@ fn the_encoder_appends() {
     assert_eq!((encoder.take_buffer(), encoder.bitness()), (vec![1, 0x90], 64));
     assert_eq!(Encoder::try_new(1).err(), Some(Error::BadMode));
     assert_eq!(Encoder::new(1).encode(&nop, 0), Err(Error::BadMode));
-    assert_eq!(Encoder::new(64).encode(&Instruction::default(), 0), Err(Error::NoEncoding { cause: Cause::Row, operand: None }));
+    assert_eq!(
+        Encoder::new(64).encode(&Instruction::default(), 0),
+        Err(Error::NoEncoding { cause: Cause::Row, operand: None })
+    );
 }
 
 #[test]

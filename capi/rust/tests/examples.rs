@@ -117,7 +117,11 @@ fn a_function_is_rewritten() {
     let (found, grown) = rewrite::moved(&instructions, 0x50_0000).unwrap();
     assert_eq!((found.len(), grown, found[0].ip()), (13, 0, 0x50_0000));
     let out = rewrite::rewrite(0x40_1000, rewrite::FUNCTION, 0x7FFF_0000_0000).unwrap();
-    for line in ["5 instructions replaced:", "moved to 7fff00000000, 0 branches longer:", "je     label_2             ; tests flags, ConditionalBranch"] {
+    for line in [
+        "5 instructions replaced:",
+        "moved to 7fff00000000, 0 branches longer:",
+        "je     label_2             ; tests flags, ConditionalBranch",
+    ] {
         assert!(out.contains(line), "{}", out);
     }
     assert_eq!(rewrite::read_function(0, b"\x90\x06").unwrap_err(), Error::Invalid { at: 1 });

@@ -43,9 +43,19 @@ fn formatters() -> [Box<dyn Formatter>; 3] {
 #[test]
 fn texts_in_three_styles() {
     let table: &[(&[u8], [&str; 3])] = &[
-        (b"\x48\x89\x5C\x24\x10", ["mov qword [rsp+0x10], rbx", "movq %rbx, 0x10(%rsp)", "mov qword ptr [rsp+10h], rbx"]),
+        (
+            b"\x48\x89\x5C\x24\x10",
+            ["mov qword [rsp+0x10], rbx", "movq %rbx, 0x10(%rsp)", "mov qword ptr [rsp+10h], rbx"],
+        ),
         (b"\x83\xC0\x05", ["add eax, 0x5", "add $0x5, %eax", "add eax, 5h"]),
-        (b"\xF0\x01\x4C\x98\xF8", ["lock add dword [rax+rbx*4-0x8], ecx", "lock addl %ecx, -0x8(%rax,%rbx,4)", "lock add dword ptr [rax+rbx*4-8h], ecx"]),
+        (
+            b"\xF0\x01\x4C\x98\xF8",
+            [
+                "lock add dword [rax+rbx*4-0x8], ecx",
+                "lock addl %ecx, -0x8(%rax,%rbx,4)",
+                "lock add dword ptr [rax+rbx*4-8h], ecx",
+            ],
+        ),
         (b"\xDC\xC1", ["fadd st1, st0", "fadd %st(0), %st(1)", "fadd st(1), st(0)"]),
         (b"\x74\x10", ["je 0x1012", "je 0x1012", "je 1012h"]),
         (b"\xF3\xA4", ["rep movsb", "rep movsb", "rep movsb"]),
@@ -88,7 +98,15 @@ fn parts_are_the_whole() {
                 // each register and number of the operands is found
                 for (text, kind) in &parts.parts {
                     let is_word = *kind == FormatterTextKind::Keyword;
-                    assert!(!is_word || !text.contains(|c: char| c.is_ascii_digit()) || text.starts_with("far") || text == "rel32", "{} in {}", text, whole);
+                    assert!(
+                        !is_word
+                            || !text.contains(|c: char| c.is_ascii_digit())
+                            || text.starts_with("far")
+                            || text == "rel32",
+                        "{} in {}",
+                        text,
+                        whole
+                    );
                 }
             }
         }
@@ -97,7 +115,9 @@ fn parts_are_the_whole() {
 
 #[test]
 fn parts_have_kinds() {
-    use FormatterTextKind::{Data, FunctionAddress, Keyword, LabelAddress, Mnemonic, Number, Operator, Prefix, Punctuation};
+    use FormatterTextKind::{
+        Data, FunctionAddress, Keyword, LabelAddress, Mnemonic, Number, Operator, Prefix, Punctuation,
+    };
     let parts = |ip, code: &[u8], formatter: &mut dyn Formatter| {
         let mut parts = Parts::default();
         formatter.format(&decode(ip, code), &mut parts);
@@ -109,7 +129,22 @@ fn parts_have_kinds() {
     let register = FormatterTextKind::Register;
     assert_eq!(
         kinds,
-        [Prefix, Mnemonic, Keyword, Punctuation, register, Operator, register, Operator, Number, Operator, Number, Punctuation, Punctuation, register]
+        [
+            Prefix,
+            Mnemonic,
+            Keyword,
+            Punctuation,
+            register,
+            Operator,
+            register,
+            Operator,
+            Number,
+            Operator,
+            Number,
+            Punctuation,
+            Punctuation,
+            register
+        ]
     );
     assert_eq!((add.numbers, add.registers), (vec![4, 8], vec![Register::RAX, Register::RBX, Register::ECX]));
 
@@ -142,13 +177,17 @@ fn what_is_no_instruction_is_bad() {
         assert_eq!(formatter.format_register(Register::None), "");
     }
     assert_eq!(GasFormatter::new().format_register(Register::R8D), "%r8d");
-    let (mut decoder, mut instruction, mut text) = (Decoder::new(64, b"\x06\x90", DecoderOptions::NONE), Instruction::default(), Text::new());
+    let (mut decoder, mut instruction, mut text) =
+        (Decoder::new(64, b"\x06\x90", DecoderOptions::NONE), Instruction::default(), Text::new());
     decoder.decode_line(FormatterSyntax::Intel, &mut instruction, &mut text);
     assert_eq!((text.as_str(), instruction.is_invalid(), decoder.position()), ("(bad)", true, 1));
     decoder.decode_line(FormatterSyntax::Intel, &mut instruction, &mut text);
     assert_eq!((text.as_str(), instruction.is_invalid(), decoder.position()), ("nop", false, 2));
     decoder.decode_line(FormatterSyntax::Gas, &mut instruction, &mut text);
     assert_eq!((text.as_str(), instruction.len(), decoder.position()), ("(bad)", 0, 2));
-    assert!(line_text(3, FormatterSyntax::Intel, 0, b"\x90").is_err() && line_text(64, FormatterSyntax::Intel, 0, b"").is_err());
+    assert!(
+        line_text(3, FormatterSyntax::Intel, 0, b"\x90").is_err()
+            && line_text(64, FormatterSyntax::Intel, 0, b"").is_err()
+    );
     assert_eq!(format!("[{:>8}] [{:<5}]", decode(0, b"\x90"), Register::AL), "[     nop] [al   ]");
 }

@@ -26,7 +26,11 @@ fn registers_are_those_of_the_manual() {
     assert_eq!(used(b"\xF7\xE1"), [(Register::ECX, Read), (Register::EAX, ReadWrite), (Register::EDX, Write)]);
     // rep stosd: ECX counts; nothing is stored if RCX is 0
     let rep = used(b"\xF3\xAB");
-    assert!(rep.contains(&(Register::EAX, CondRead)) && rep.last() == Some(&(Register::RCX, ReadCondWrite)), "{:?}", rep);
+    assert!(
+        rep.contains(&(Register::EAX, CondRead)) && rep.last() == Some(&(Register::RCX, ReadCondWrite)),
+        "{:?}",
+        rep
+    );
     // cpuid reads EAX and ECX, and writes four registers
     assert_eq!(used(b"\x0F\xA2").iter().filter(|(_, access)| access.writes()).count(), 4);
     assert!(used(b"\x90").is_empty());
@@ -48,7 +52,10 @@ fn memory_is_that_of_the_manual() {
     assert!(factory.info(&decode(b"\x48\x8D\x04\x0B")).used_memory().is_empty());
     // add [rax+rcx*8-4], edx
     let add = factory.info(&decode(b"\x01\x54\xC8\xFC")).used_memory()[0];
-    assert_eq!((add.base(), add.index(), add.scale(), add.displacement()), (Register::RAX, Register::RCX, 8, -4_i64 as u64));
+    assert_eq!(
+        (add.base(), add.index(), add.scale(), add.displacement()),
+        (Register::RAX, Register::RCX, 8, -4_i64 as u64)
+    );
     assert_eq!((add.memory_size(), add.access()), (4, OpAccess::ReadWrite));
 }
 
@@ -116,7 +123,10 @@ fn operands_are_accessed_as_in_the_manual() {
     let mut factory = InstructionInfoFactory::new();
     let info = factory.info(&decode(b"\x48\x01\xC8")).clone();
     assert_eq!((info.op0_access(), info.op1_access()), (OpAccess::ReadWrite, OpAccess::Read));
-    assert_eq!((info.op2_access(), info.op3_access(), info.op_access(u32::MAX)), (OpAccess::None, OpAccess::None, OpAccess::None));
+    assert_eq!(
+        (info.op2_access(), info.op3_access(), info.op_access(u32::MAX)),
+        (OpAccess::None, OpAccess::None, OpAccess::None)
+    );
     assert_eq!(factory.info(&decode(b"\x48\x39\xC8")).op0_access(), OpAccess::Read);
     assert_eq!(factory.info(&decode(b"\x48\x89\xC8")).op0_access(), OpAccess::Write);
     assert_eq!(factory.try_info(&feddurzai::Instruction::default()).err(), Some(Error::BadForm));

@@ -25,10 +25,8 @@ fn numbers_in_c(name: &str, lines: &str) -> Option<BTreeMap<String, u64>> {
     let folder = PathBuf::from(env!("CARGO_TARGET_TMPDIR"));
     let (source, program) = (folder.join(format!("{}.c", name)), folder.join(name));
     // the functions of the header that look for NULL call the library: they are not needed here
-    let text = format!(
-        "#include \"feddurzai.h\"\n#include <stdio.h>\nint main(void)\n{{\n{}    return 0;\n}}\n",
-        lines
-    );
+    let text =
+        format!("#include \"feddurzai.h\"\n#include <stdio.h>\nint main(void)\n{{\n{}    return 0;\n}}\n", lines);
     fs::write(&source, text).unwrap();
     let library = folder.join(format!("{}.o", name));
     let compiled = Command::new(&compiler).args(&flags).args(["-O1", "-c", "-o"]).arg(&library).arg(&source).status();

@@ -51,7 +51,10 @@ fn blocks_follow_each_other() {
     let hot = Block::new(0x1000, b"\x0F\x85\xFA\x00\x00\x00\xC3", 0x2000);
     let cold = Block::new(0x1100, b"\xE9\x01\xFF\xFF\xFF", 0x2020);
     let moved = move_blocks(64, &[hot, cold]).unwrap();
-    assert_eq!((moved[0].code(), moved[1].code()), (&b"\x0F\x85\x1A\x00\x00\x00\xC3"[..], &b"\xE9\xE1\xFF\xFF\xFF"[..]));
+    assert_eq!(
+        (moved[0].code(), moved[1].code()),
+        (&b"\x0F\x85\x1A\x00\x00\x00\xC3"[..], &b"\xE9\xE1\xFF\xFF\xFF"[..])
+    );
     assert_eq!((moved[0].instructions().len(), moved[1].instructions()[0].new_ip), (2, 0x2020));
     assert_eq!(move_blocks(64, &[]), Ok(vec![]));
     let bad = Block::new(0x1100, b"\x90\x06", 0x2020);
@@ -73,7 +76,8 @@ fn instructions_are_moved_as_their_bytes_are() {
     assert_eq!(result.code_buffer, b"\x0F\x84\x0C\x80\xFF\xFF\x90\xEB\xF7");
     assert_eq!((result.rip, result.code_len, &result.new_instruction_offsets[..]), (0x9000, 9, &[0, 6, 7][..]));
     assert_eq!(result.forms, [MovedForm::Near, MovedForm::Itself, MovedForm::Short]);
-    let kept = BlockEncoder::encode(64, InstructionBlock::new(&code, 0x1010), BlockEncoderOptions::KEEP_TARGETS).unwrap();
+    let kept =
+        BlockEncoder::encode(64, InstructionBlock::new(&code, 0x1010), BlockEncoderOptions::KEEP_TARGETS).unwrap();
     assert_eq!(kept.code_buffer, b"\x74\x00\x90\xEB\xEB");
     // several
     let blocks = [InstructionBlock::new(&code, 0x9000), InstructionBlock::new(&[], 0x9100)];
@@ -102,17 +106,30 @@ fn instructions_are_moved_as_their_bytes_are() {
 fn regions_give_out_places() {
     let mut region = Region::new(0x10000, 64, 2).unwrap();
     assert_eq!((region.base(), region.size(), region.image()), (0x10000, 64, &[0xCC; 64][..]));
-    assert_eq!((region.reserve(17), region.reserve(16), region.reserve(1)), (Ok(0x10000), Ok(0x10020), Err(Error::NoRoom)));
+    assert_eq!(
+        (region.reserve(17), region.reserve(16), region.reserve(1)),
+        (Ok(0x10000), Ok(0x10020), Err(Error::NoRoom))
+    );
     assert!(region.live().map(|block| (block.place, block.len)).eq([(0x10000, 32), (0x10020, 16)]));
     assert_eq!((region.fill(0x10020, b"\x90"), region.fill(0x10020, &[0; 17])), (Ok(()), Err(Error::NoRoom)));
     assert_eq!((region.image()[0x20], region.image()[0x21]), (0x90, 0xCC));
     assert_eq!((region.release(0x10010), region.fill(7, b"")), (Err(Error::NotLive), Err(Error::NotLive)));
     assert_eq!(region.release(0x10020), Ok(()));
-    assert_eq!((region.image()[0x20], region.reserve(0), region.reserve(33)), (0xCC, Err(Error::Empty), Err(Error::Full)));
+    assert_eq!(
+        (region.image()[0x20], region.reserve(0), region.reserve(33)),
+        (0xCC, Err(Error::Empty), Err(Error::Full))
+    );
     assert_eq!(region.reserve(u64::MAX), Err(Error::Full));
-    for (base, size, most) in
-        [(0, 0, 1), (0, 15, 1), (0, 1 << 21, 1), (0, u64::MAX, 1), (0, 16, 0), (0, 16, 65537), (0, 16, usize::MAX), (u64::MAX, 16, 1)]
-    {
+    for (base, size, most) in [
+        (0, 0, 1),
+        (0, 15, 1),
+        (0, 1 << 21, 1),
+        (0, u64::MAX, 1),
+        (0, 16, 0),
+        (0, 16, 65537),
+        (0, 16, usize::MAX),
+        (u64::MAX, 16, 1),
+    ] {
         assert_eq!(Region::new(base, size, most).err(), Some(Error::BadRegion), "{} {} {}", base, size, most);
     }
     assert!(Region::new(u64::MAX - 15, 16, 65536).is_ok());
@@ -136,7 +153,10 @@ fn steps_run_one_instruction() {
     assert_eq!((place, slots.live()[0].old_ip, slots.live()[0].step.len), (0x10000, 0x1000, 1));
     assert_eq!(slots.image()[..6], b"\x50\xE9\xFB\x0F\xFF\xFF"[..]);
     assert_eq!(slots.step(0, b"\x06"), Err(Error::Invalid { at: 0 }));
-    assert_eq!(slots.step(0x7FFF_0000_0000, b"\x48\x8D\x05\x00\x00\x00\x00").unwrap_err(), Error::TooFar { instruction: 0, target: 0x7FFF_0000_0007 });
+    assert_eq!(
+        slots.step(0x7FFF_0000_0000, b"\x48\x8D\x05\x00\x00\x00\x00").unwrap_err(),
+        Error::TooFar { instruction: 0, target: 0x7FFF_0000_0007 }
+    );
     assert_eq!((slots.live().len(), slots.finish(1), slots.finish(place)), (1, Err(Error::NotLive), Ok(())));
     assert!(slots.live().is_empty() && slots.image() == [0xCC; 64]);
     assert_eq!(StepSlots::new(16, 0xFFF0, 32, 4).err(), Some(Error::BadRegion));
@@ -164,7 +184,8 @@ fn hooks_have_two_parts() {
 
 #[test]
 fn hooks_are_refused() {
-    let detour = |bitness, code: &[u8]| Detour::new(bitness, 0x1000, code, 0x2000, 0x3000, DetourStart::Moved).map(|_| ());
+    let detour =
+        |bitness, code: &[u8]| Detour::new(bitness, 0x1000, code, 0x2000, 0x3000, DetourStart::Moved).map(|_| ());
     assert_eq!(detour(64, b"\x31\xC0\xFF\xC0\x39\xF8\x72\xFA\xC3"), Err(Error::Entered { from: 6, to: 2 }));
     assert_eq!(detour(64, b"\x90\xC3"), Err(Error::Small { function: 2, jump: 5 }));
     assert_eq!(detour(64, b""), Err(Error::Small { function: 0, jump: 5 }));
