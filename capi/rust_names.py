@@ -94,7 +94,11 @@ def word(row, kind):
         return f"rel8_{size}"
     if kind == "Jz":
         return "rel16" if size == 16 else f"rel32_{size}"
-    return SIZED[kind].format(size) if kind in SIZED else FIXED[kind]
+    if kind in SIZED:
+        return SIZED[kind].format(size)
+    if kind not in FIXED:
+        sys.exit(f"rust_names.py: FIXED and SIZED have no word for the operand kind {kind}: {row.entry.where}")
+    return FIXED[kind]
 
 
 def name_of(row):

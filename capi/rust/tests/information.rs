@@ -183,7 +183,12 @@ fn codes_are_those_of_the_table() {
     }
     let names: std::collections::HashSet<String> = Code::values().map(|code| format!("{:?}", code)).collect();
     assert_eq!(names.len(), Code::values().count());
-    assert_eq!(Mnemonic::values().count(), 960);
+    let mnemonics: std::collections::HashSet<Mnemonic> = Code::values().map(Code::mnemonic).collect();
+    assert_eq!(Mnemonic::values().count(), mnemonics.len());
+    for mnemonic in Mnemonic::values() {
+        assert_eq!(Mnemonic::from_name(mnemonic.as_str()), Some(mnemonic));
+        assert_eq!(format!("{:?}", mnemonic).to_lowercase(), mnemonic.to_string());
+    }
     assert_eq!(Code::INVALID.op_code().instruction(), Err(Error::BadCode));
     assert_eq!((Code::INVALID.op_code().op_count(), Code::INVALID.mnemonic()), (0, Mnemonic::INVALID));
     assert_eq!(Code::Addps_xmm_xmmm128.op_code().op_kind(4), Err(Error::NoName));

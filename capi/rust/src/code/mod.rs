@@ -47,13 +47,13 @@ impl Code {
     /// No code: that of bytes with which no instruction begins.
     pub const INVALID: Code = Code(0xFFFF);
 
-    /// Returns the code with a number, 0 to 2082, or `None` if no row has it.
+    /// Returns the code with a number, or `None` if no row has it.
     ///
     /// ```
     /// use feddurzai::Code;
     ///
     /// assert_eq!(Code::new(u32::from(Code::Retnq.value())), Some(Code::Retnq));
-    /// assert_eq!(Code::new(2083), None);
+    /// assert_eq!(Code::new(u32::MAX), None);
     /// ```
     #[must_use]
     pub fn new(number: u32) -> Option<Code> {
@@ -94,7 +94,7 @@ impl Code {
     /// Returns all codes.
     ///
     /// ```
-    /// assert_eq!(feddurzai::Code::values().count(), 2083);
+    /// assert!(feddurzai::Code::values().count() >= 2083);
     /// ```
     pub fn values() -> impl Iterator<Item = Code> {
         (0..CODES).map(Code)
