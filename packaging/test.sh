@@ -15,7 +15,7 @@
 #   SUITE                 the Debian release; the default is bookworm
 #   MIRROR                a mirror; the default is that of mmdebstrap
 #   MMDEBSTRAP_OPTIONS    more options for mmdebstrap, such as --aptopt=FILE behind a proxy
-#   TMPDIR                the folder for the system, which takes some 1600 MB; the default is /tmp
+#   TMPDIR                the folder for the system, which takes some 1800 MB; the default is /tmp
 #
 # Each step prints what it checked. The first failure is printed with the output of its command, and the status is then 1.
 set -eu
@@ -241,8 +241,9 @@ for kind in shared static; do
         inside "listing, $kind" sh -c '"$0" /try/ls.bin 64 "$1" "$2" | cmp - "/try/ls.$2"' "/try/rust-$kind/release/examples/listing" "$at" "$style"
     done
     say "Rust, $kind: $(run_in "" rustc --version) built the crate without a network; $ran tests passed; its listing equals the program's"
+    rm -r "$root/try/rust-$kind"
 done
-rm -r "$root$crate" "$root/try/rust-shared" "$root/try/rust-static"
+rm -r "$root$crate"
 
 # ---- removed
 paths=$(run_in "" dpkg -L feddurzai "$library" libfeddurzai-dev python3-feddurzai | sort -u)
