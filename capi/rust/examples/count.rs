@@ -4,7 +4,7 @@
 //!
 //! `text` writes each text over the one before it, as the loop in C does; `string` appends it to a `String`.
 
-use feddurzai::{Decoder, DecoderOptions, Formatter, FormatterSyntax, Instruction, IntelFormatter, Text};
+use feddurzai::{Code, Decoder, DecoderOptions, Formatter, FormatterSyntax, Instruction, IntelFormatter, Text};
 use std::{env, error::Error, fs};
 
 /// The number of instructions, and a sum over them that no compiler leaves out.
@@ -16,11 +16,12 @@ fn count(code: &[u8], what: &str) -> Result<(u64, u64), Box<dyn Error>> {
     let (mut found, mut sum) = (0, 0_u64);
     while decoder.can_decode() {
         decoder.decode_out(&mut instruction);
-        if instruction.is_invalid() {
+        let code = instruction.code();
+        if code == Code::INVALID {
             continue;
         }
         found += 1;
-        sum = sum.wrapping_add(u64::from(instruction.code().value()));
+        sum = sum.wrapping_add(u64::from(code.value()));
         if with_text {
             instruction.write_text(FormatterSyntax::Intel, &mut text)?;
             sum = sum.wrapping_add(text.len() as u64);

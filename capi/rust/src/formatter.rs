@@ -204,10 +204,12 @@ pub trait FormatterOutput {
 
 #[cfg(feature = "alloc")]
 impl FormatterOutput for String {
+    #[inline]
     fn write(&mut self, text: &str, _: FormatterTextKind) {
         self.push_str(text);
     }
 
+    #[inline]
     fn write_whole(&mut self, text: &str) -> bool {
         self.push_str(text);
         true
