@@ -40,6 +40,8 @@ fn fail(why: &str) -> ! {
 
 /// Links the library in a folder: the static one if it is there, unless the shared one is requested.
 fn links_folder(folder: &Path, wants_static: Option<bool>) -> bool {
+    // the linker runs in another folder
+    let folder = folder.canonicalize().unwrap_or_else(|_| folder.to_path_buf());
     let is_static = wants_static.unwrap_or_else(|| folder.join("libfeddurzai.a").exists());
     let file = folder.join(if is_static { "libfeddurzai.a" } else { "libfeddurzai.so" });
     if !file.exists() {
