@@ -221,7 +221,13 @@ impl Text {
     #[must_use]
     #[inline]
     pub fn new() -> Text {
-        Text { bytes: [MaybeUninit::uninit(); MAX_TEXT], len: 0 }
+        let mut text = MaybeUninit::<Text>::uninit();
+        // a constant with undefined bytes would be copied
+        // SAFETY: `len` is initialized, and an array of `MaybeUninit` needs no initialization.
+        unsafe {
+            core::ptr::addr_of_mut!((*text.as_mut_ptr()).len).write(0);
+            text.assume_init()
+        }
     }
 
     /// Lets a function of the library write the text, and returns its status. A status of 0 or more is the length.
