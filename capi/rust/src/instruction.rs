@@ -398,8 +398,8 @@ impl Instruction {
         u32::from(self.first(OpKind::Memory).scale).max(1)
     }
 
-    /// The displacement of its memory operand, sign-extended to the address size. With the base RIP or EIP it is the
-    /// absolute address of the operand.
+    /// The displacement of its memory operand, sign-extended and then truncated to the address size. With the base RIP or
+    /// EIP it is the absolute address of the operand.
     #[must_use]
     pub fn memory_displacement64(&self) -> u64 {
         self.first(OpKind::Memory).value
