@@ -2,7 +2,7 @@
 
 use crate::error::{Error, Place};
 use crate::formatter::FormatterSyntax;
-use crate::instruction::{checked_mode, mask_of, Instruction, HAS_BYTES};
+use crate::instruction::{checked_mode, mask_of, Instruction};
 use crate::offsets::ConstantOffsets;
 use crate::sys::{self, Library, Text, MAX_LEN};
 use core::iter::FusedIterator;
@@ -283,7 +283,7 @@ impl<'a> Decoder<'a> {
     #[inline]
     fn place(&mut self, instruction: &mut Instruction, rest: &[u8]) {
         instruction.ip = self.ip & self.mask;
-        instruction.mode = self.mode | HAS_BYTES;
+        instruction.mode = self.mode;
         // a copy of a fixed size is two moves
         match rest.get(..MAX_LEN).map(<[u8; MAX_LEN]>::try_from) {
             Some(Ok(window)) => instruction.bytes = window,

@@ -1,7 +1,7 @@
 //! The encoder, jumps, and texts that are read.
 
 use crate::error::{taken, Error};
-use crate::instruction::{checked_mode, mask_of, EncodedBytes, Instruction, HAS_BYTES};
+use crate::instruction::{checked_mode, mask_of, EncodedBytes, Instruction};
 use crate::sys::{Library, MAX_JUMP, MAX_LEN};
 
 #[cfg(feature = "alloc")]
@@ -132,7 +132,7 @@ pub fn read_intel(bitness: u32, ip: u64, text: &str) -> Result<Instruction, Erro
     let mut instruction = Instruction { ip: ip & mask_of(bitness), ..Instruction::default() };
     taken(library.read_intel(bitness, ip, text, &mut instruction.raw))?;
     taken(library.encode(bitness, ip, &instruction.raw, &mut instruction.bytes))?;
-    instruction.mode = checked_mode(bitness)? | HAS_BYTES;
+    instruction.mode = checked_mode(bitness)?;
     Ok(instruction)
 }
 

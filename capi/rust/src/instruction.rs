@@ -10,9 +10,6 @@ use crate::sys::{self, Library, MAX_LEN};
 use core::fmt;
 use core::hash::{Hash, Hasher};
 
-/// The bit of `Instruction::mode` that says that `bytes` has the bytes of the instruction.
-pub(crate) const HAS_BYTES: u8 = 1;
-
 /// An instruction: decoded by a [`Decoder`](crate::Decoder), or constructed by [`Instruction::with2`] and others.
 ///
 /// Two are equal if code, operands and prefixes are; addresses and bytes are not compared. A getter of something that the
@@ -33,10 +30,12 @@ pub(crate) const HAS_BYTES: u8 = 1;
 /// ```
 #[derive(Clone, Copy)]
 pub struct Instruction {
+    /// The struct; its length is 0 if the instruction was constructed or changed.
     pub(crate) raw: sys::Instr,
     pub(crate) ip: u64,
+    /// The bytes that were decoded, as many as the length says.
     pub(crate) bytes: [u8; MAX_LEN],
-    /// The bitness, 16, 32 or 64, and `HAS_BYTES`.
+    /// The bitness: 16, 32 or 64.
     pub(crate) mode: u8,
 }
 
@@ -149,15 +148,14 @@ impl Instruction {
     #[must_use]
     #[inline]
     pub fn bytes(&self) -> &[u8] {
-        let len = if self.mode & HAS_BYTES != 0 { self.len() } else { 0 };
-        self.bytes.get(..len).unwrap_or(&[])
+        self.bytes.get(..self.len()).unwrap_or(&[])
     }
 
     /// Its mode: 16, 32 or 64. A constructed instruction has the widest mode in which it can be encoded.
     #[must_use]
     #[inline]
     pub const fn bitness(&self) -> u32 {
-        (self.mode & !HAS_BYTES) as u32
+        self.mode as u32
     }
 
     /// Sets its mode.
@@ -166,7 +164,7 @@ impl Instruction {
     ///
     /// [`Error::BadMode`] if `bitness` is not 16, 32 or 64.
     pub fn set_bitness(&mut self, bitness: u32) -> Result<(), Error> {
-        self.mode = checked_mode(bitness)? | (self.mode & HAS_BYTES);
+        self.mode = checked_mode(bitness)?;
         Ok(())
     }
 
@@ -516,7 +514,6 @@ impl Instruction {
 /// Changes. A changed instruction has no bytes until it is encoded.
 impl Instruction {
     fn changed(&mut self) -> &mut sys::Instr {
-        self.mode &= !HAS_BYTES;
         self.raw.len = 0;
         &mut self.raw
     }
