@@ -1,14 +1,19 @@
 #!/usr/bin/env python3
-"""Writes the codes of common instructions to feddurzai.h, tests/codes.h and the Python package, from the rows of the table.
+"""Writes the codes of common instructions to feddurzai.h, tests/codes.h and the Python package, and all codes to the Rust crate, from the rows of the table.
 
-    listing_program rows | capi/codes.py            writes all three files
-    listing_program rows | capi/codes.py --check    compares the three files with what it would write; exit status 1 if one differs
+    listing_program rows | capi/codes.py            writes all files
+    listing_program rows | capi/codes.py --check    compares the files with what it would write; exit status 1 if one differs
 
-A row is `CODE NOTATION NAME`. The list below selects the rows that have a constant and names each; the numbers come from the rows alone.
+A row is `CODE NOTATION NAME`. The list below selects the rows that have a constant in C and Python and names each; the numbers come from the rows alone.
+rust_names.py names all rows for Rust; the crate also has the number of the interface, which comes from feddurzai.h.
 """
 
 import os
+import re
 import sys
+
+sys.dont_write_bytecode = True
+import rust_names  # noqa: E402
 
 HERE = os.path.dirname(os.path.abspath(__file__))
 BEGIN = "/* begin of the codes that codes.py writes */\n"
@@ -69,12 +74,21 @@ def wanted():
 
 
 def read_rows(lines):
-    """Maps each name and notation to the code and the number of rows of the name before it."""
-    rows, seen = {}, {}
+    """The notation and the name of each row, in the order of the codes."""
+    rows = []
     for line in lines:
         code, rest = line.rstrip("\n").split(" ", 1)
-        notation, name = rest.rsplit(" ", 1)
-        rows[name, notation] = int(code), seen.get(name, 0)
+        if int(code) != len(rows):
+            sys.exit(f"codes.py: standard input has code {code} where {len(rows)} is due: pass it the output of listing_program rows")
+        rows.append(tuple(rest.rsplit(" ", 1)))
+    return rows
+
+
+def by_name(listed):
+    """Maps each name and notation to the code and the number of rows of the name before it."""
+    rows, seen = {}, {}
+    for code, (notation, name) in enumerate(listed):
+        rows[name, notation] = code, seen.get(name, 0)
         seen[name] = seen.get(name, 0) + 1
     return rows
 
@@ -137,13 +151,17 @@ def main():
     check = words == ["--check"]
     header_path = os.path.join(HERE, "feddurzai.h")
     header = text_of(header_path)
-    constants, tests, members = parts(read_rows(sys.stdin))
+    rows = read_rows(sys.stdin)
+    constants, tests, members = parts(by_name(rows))
     before, rest = header.split(BEGIN)
     written = {
         header_path: before + BEGIN + constants + END + rest.split(END)[1],
         os.path.join(HERE, "tests", "codes.h"): tests,
         os.path.join(HERE, "python", "feddurzai", "_codes.py"): members,
     }
+    interface = re.search(r"^#define FEDDURZAI_INTERFACE (\d+)$", header, re.MULTILINE)
+    for name, text in rust_names.files_of(rows, interface[1]).items():
+        written[os.path.join(HERE, "rust", "src", *name.split("/"))] = text
     if check:
         other = [path for path, text in written.items() if text_of(path) != text]
         sys.exit(f"codes.py: out of date: {', '.join(other)}: run codes.py without --check" if other else 0)

@@ -1,14 +1,14 @@
 #!/bin/sh
 # Builds the C library with both compilers of the kit and tests it: the header; the structs; every function with valid and invalid
 # arguments, with NULL, zeros and every buffer that is too small; the examples; the Python package; the GDB commands; the inspector;
-# stack walks; the listing of a real file against that of the program; clients of the files that install.sh installs; and the packages
-# of packaging/build.sh as far as no root is needed (packaging/test.sh installs them).
+# stack walks; the crate for Rust; the listing of a real file against that of the program; clients of the files that install.sh
+# installs; and the packages of packaging/build.sh as far as no root is needed (packaging/test.sh installs them).
 #
 #   capi/test.sh [FILE]
 #
 # FILE is raw 64-bit code. The default is the .text of gdb, of python3 or of the C library: the first that is installed and that
-# objcopy accepts. Required: the kit's `rt`, gcc with g++, binutils, python3. Used if installed: gdb, pkg-config, pip, mypy, pyelftools,
-# Graphviz and dpkg-dev. Each step prints what it ran.
+# objcopy accepts. Required: the kit's `rt`, gcc with g++, binutils, python3. Used if installed: gdb, pkg-config, pip, mypy,
+# pyelftools, Graphviz, cargo, valgrind and dpkg-dev. Each step prints what it ran.
 set -eu
 if [ "${1:-}" = --help ]; then
     sed -n '2,/^set/s/^# \{0,1\}//p' "$0"
@@ -67,8 +67,8 @@ for style in intel att masm; do
 done
 "$program" list 64 401000 intel <"$front" >"$work/front.intel"
 say "program: $(wc -l <"$work/program.intel") lines in each of three styles"
-"$program" rows | "$here/codes.py" --check || die "the codes of feddurzai.h or of the Python package differ from the rows: run capi/codes.py"
-say "header and Python: the codes of common instructions are those of the program's rows"
+"$program" rows | "$here/codes.py" --check || die "the codes of feddurzai.h, of the Python package or of the Rust crate differ from the rows: run capi/codes.py"
+say "header, Python and Rust: the codes are those of the program's rows"
 
 # tries_nulls COMPILER STANDARD: every function with NULL, zeros and small rooms, under the sanitizers
 tries_nulls() {
@@ -222,6 +222,58 @@ tries_inspector() {
     say "$backend: the inspector lists, draws a graph and a page, reports needs and hooks; $(tail -1 "$work/inspector.log")"
 }
 
+# runs_cargo LOG WORDS..: runs cargo in the crate for Rust, with the variables of the environment; nothing is written beside its sources
+runs_cargo() {
+    cargo_log=$1
+    shift
+    (cd "$here/rust" && CARGO_TARGET_DIR=$work/cargo cargo "$@") >"$cargo_log" 2>&1 || die_with "$cargo_log" "$backend: cargo $*"
+}
+
+# tests_in LOG: how many tests a run of cargo passed
+tests_in() {
+    sed -n 's/^test result: ok\. \([0-9]*\) passed.*/\1/p' "$1" | awk '{ n += $1 } END { print n + 0 }'
+}
+
+# tries_rust: the tests of the crate with the library of $out, its documentation, and its listing against the program's
+tries_rust() {
+    if ! command -v cargo >/dev/null; then
+        say "$backend: skipped the crate for Rust: cargo is not installed"
+        return
+    fi
+    export FEDDURZAI_LIB_DIR="$out"
+    runs_cargo "$work/cargo.log" test --offline --locked
+    say "$backend: the crate for Rust: $(tests_in "$work/cargo.log") tests passed ($(cargo --version))"
+    runs_cargo "$work/cargo.log" build --offline --locked --release --example listing
+    for style in intel att masm; do
+        "$work/cargo/release/examples/listing" "$file" 64 401000 $style | cmp - "$work/program.$style" || die "$backend: the listing in Rust differs in style $style"
+    done
+    say "$backend: the example listing of the crate lists as the program does, in three styles"
+    unset FEDDURZAI_LIB_DIR
+}
+
+# checks_rust: what does not depend on the compiler of the library: warnings, other features, and memory by valgrind
+checks_rust() {
+    command -v cargo >/dev/null || return 0
+    export FEDDURZAI_LIB_DIR="$work/llvm"
+    RUSTDOCFLAGS="-D warnings" runs_cargo "$work/cargo.log" doc --offline --locked --no-deps
+    RUSTFLAGS="-D warnings" runs_cargo "$work/cargo.log" check --offline --locked --no-default-features
+    RUSTFLAGS="-D warnings" runs_cargo "$work/cargo.log" check --offline --locked --no-default-features --features alloc
+    said="no warning in its documentation, without std and without alloc"
+    if cargo clippy --version >/dev/null 2>&1; then
+        runs_cargo "$work/cargo.log" clippy --offline --locked --all-targets -- -D warnings
+        said="$said, nor by clippy"
+    fi
+    say "the crate for Rust: $said"
+    if command -v valgrind >/dev/null; then
+        CARGO_TARGET_X86_64_UNKNOWN_LINUX_GNU_RUNNER="valgrind -q --smc-check=all --error-exitcode=9" \
+            runs_cargo "$work/cargo.log" test --offline --locked --test encoding --test information --test moving --test examples
+        say "the crate for Rust: $(tests_in "$work/cargo.log") tests by valgrind, no invalid access"
+    else
+        say "the crate for Rust: skipped: there is no valgrind here"
+    fi
+    unset FEDDURZAI_LIB_DIR
+}
+
 for backend in llvm rattle; do
     out=$work/$backend
     "$here/build.sh" "$out" $backend >/dev/null
@@ -284,7 +336,10 @@ for backend in llvm rattle; do
     tries_gdb "$here/gdb.py"
     tries_inspector
     unset FEDDURZAI_LIBRARY
+    tries_rust
 done
+backend=llvm
+checks_rust
 
 # ---- what is installed, from its files alone
 backend=installed
@@ -308,6 +363,14 @@ if command -v pkg-config >/dev/null; then
     gcc -std=c99 -O2 $warn $(pkg-config --cflags feddurzai) disassemble.c "$(pkg-config --variable=libdir feddurzai)/libfeddurzai.a" -o static
     ./static "$file" 64 401000 intel | cmp - "$work/program.intel" || die "installed: the static client's listing differs"
     say "installed: a client in C by pkg-config, version $(pkg-config --modversion feddurzai), shared and static, lists as the program does"
+    if command -v cargo >/dev/null; then
+        # a copy of the sources, which stands in no clone
+        cp -r "$here/rust" "$client/rust"
+        rm -rf "$client/rust/target"
+        (cd "$client/rust" && LD_LIBRARY_PATH=$prefix/lib CARGO_TARGET_DIR=$work/cargo-client cargo test --offline --locked) >"$work/cargo.log" 2>&1 \
+            || die_with "$work/cargo.log" "installed: cargo test"
+        say "installed: the crate for Rust by pkg-config and the shared library: $(tests_in "$work/cargo.log") tests passed"
+    fi
 else
     say "installed: skipped the C clients: pkg-config is not installed"
 fi

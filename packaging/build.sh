@@ -8,6 +8,7 @@
 #   OUT/libfeddurzai-dev_VERSION_amd64.deb      header, static library, feddurzai.pc, examples
 #   OUT/python3-feddurzai_VERSION_all.deb       the Python package, GDB's commands, examples
 #   OUT/feddurzai-VERSION-py3-none-manylinux_2_17_x86_64.manylinux2014_x86_64.whl
+#   OUT/feddurzai-VERSION.crate                 the source of the crate for Rust
 #   OUT/feddurzai-VERSION-x86_64-linux.tar.gz   all of these files in one folder
 #   OUT/PROVED                                  the commit, the kit and the logic of the proofs; also in each package
 #   OUT/SHA256SUMS
@@ -150,8 +151,8 @@ library=libfeddurzai$interface
     say
     say "The program and the library are compiled from crates that this kit proved in this logic. The proofs do not cover the kit's"
     say "compiler and its few functions over the C library; the linker; unwind.py, which adds unwind information and changes no byte"
-    say "of code; and strip, which removes local symbols. The header, the Python package and the GDB commands are tested but not"
-    say "proved. docs/proofs.md in the sources says what is proved, what is only tested, and what is neither."
+    say "of code; and strip, which removes local symbols. The header, the Python package, the crate for Rust and the GDB commands are"
+    say "tested but not proved. docs/proofs.md in the sources says what is proved, what is only tested, and what is neither."
     say
     say "Checksums of the files as built, before strip:"
     (cd "$programs" && sha256sum listing_program)
@@ -251,6 +252,26 @@ info=feddurzai-$version.dist-info
 python3 -c 'import sys, zipfile; sys.stdout.buffer.write(zipfile.ZipFile(sys.argv[1]).read(sys.argv[2]))' "$work/$wheel" "$info/METADATA" >"$work/METADATA"
 install -D -m 644 -t "$modules/$info" "$work/METADATA"
 
+# ---- the crate for Rust: a tar archive of its sources, as `cargo package` makes one
+crate=feddurzai-$version
+grep -qx "version = \"$version\"" "$top/capi/rust/Cargo.toml" || die "the crate for Rust and the library (version $version) have different versions"
+grep -qx "pub const INTERFACE: u32 = $interface;" "$top/capi/rust/src/generated.rs" || die "the crate for Rust needs another interface than $interface: run capi/codes.py"
+# sources FOLDER: copies the tracked files of the crate, and what every package has
+sources() {
+    git -C "$top" ls-files capi/rust | while IFS= read -r file; do
+        install -D -m 644 "$top/$file" "$1/${file#capi/rust/}"
+    done
+    install -m 644 "$work/copyright" "$work/PROVED" "$1/"
+}
+sources "$work/crate/$crate"
+# archives FOLDER NAME FILE: a compressed tar archive whose bytes depend on the files alone
+archives() {
+    tar --sort=name --mtime="@$SOURCE_DATE_EPOCH" --owner=0 --group=0 --numeric-owner --format=gnu -C "$1" -cf "$3.tar" "$2"
+    gzip -9n <"$3.tar" >"$3"
+    rm "$3.tar"
+}
+archives "$work/crate" "$crate" "$work/$crate.crate"
+
 # ---- all files in one folder
 name=feddurzai-$version-x86_64-linux
 tree=$work/tree/$name
@@ -265,8 +286,8 @@ install -D -m 644 "$here/feddurzai.bash" "$tree/share/bash-completion/completion
 install -D -m 644 -t "$tree/share/doc/feddurzai" "$work/copyright" "$work/PROVED"
 install -D -m 644 -t "$tree/share/doc/feddurzai/examples" "$top"/capi/examples/*.c
 install -D -m 755 -t "$tree/share/doc/feddurzai/examples" "$top"/capi/examples/*.py
-tar --sort=name --mtime="@$SOURCE_DATE_EPOCH" --owner=0 --group=0 --numeric-owner --format=gnu -C "$work/tree" -cf "$work/$name.tar" "$name"
-gzip -9n "$work/$name.tar"
+sources "$tree/share/feddurzai/rust"
+archives "$work/tree" "$name" "$work/$name.tar.gz"
 
 # ---- the Debian packages
 # needs FILE: the packages that a program or a library depends on
@@ -341,8 +362,8 @@ if command -v lintian >/dev/null; then
 else
     say "lintian is not installed: the packages were not checked with it"
 fi
-rm -f "$out"/*.deb "$out"/*.whl "$out"/*.tar.gz "$out/PROVED" "$out/SHA256SUMS"
-cp "$work"/*.deb "$work/$wheel" "$work/$name.tar.gz" "$work/PROVED" "$out/"
-(cd "$out" && sha256sum -- *.deb *.whl *.tar.gz PROVED >SHA256SUMS)
+rm -f "$out"/*.deb "$out"/*.whl "$out"/*.crate "$out"/*.tar.gz "$out/PROVED" "$out/SHA256SUMS"
+cp "$work"/*.deb "$work/$wheel" "$work/$crate.crate" "$work/$name.tar.gz" "$work/PROVED" "$out/"
+(cd "$out" && sha256sum -- *.deb *.whl *.crate *.tar.gz PROVED >SHA256SUMS)
 say "$out: feddurzai $version of commit $commit"
 cat "$out/SHA256SUMS"

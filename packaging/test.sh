@@ -7,14 +7,15 @@
 # The steps: list the code of /bin/ls with the program, before a compiler is installed; run the Python package and its examples from
 # the wheel, in a venv without a network, and from the Debian package; compile the C examples with pkg-config and run them, with the
 # shared library and with the static one; walk the stack at each instruction of the library, and in gdb from malloc to main; run the
-# GDB commands; remove the packages and check that no file is left; run the program and the libraries of the .tar.gz.
+# GDB commands; build the crate for Rust with Debian's cargo and without a network, run its tests, and list /bin/ls with its example;
+# remove the packages and check that no file is left; run the program and the libraries of the .tar.gz.
 #
 # Required: mmdebstrap, unshare, chroot, objcopy, readelf, and a Debian mirror. Variables of the environment:
 #
 #   SUITE                 the Debian release; the default is bookworm
 #   MIRROR                a mirror; the default is that of mmdebstrap
 #   MMDEBSTRAP_OPTIONS    more options for mmdebstrap, such as --aptopt=FILE behind a proxy
-#   TMPDIR                the folder for the system, which takes some 900 MB; the default is /tmp
+#   TMPDIR                the folder for the system, which takes some 1800 MB; the default is /tmp
 #
 # Each step prints what it checked. The first failure is printed with the output of its command, and the status is then 1.
 set -eu
@@ -92,7 +93,7 @@ has_no() {
 }
 
 mkdir "$root/packages" "$root/try"
-cp "$out"/*.deb "$out"/*.whl "$out"/*.tar.gz "$root/packages/"
+cp "$out"/*.deb "$out"/*.whl "$out"/*.crate "$out"/*.tar.gz "$root/packages/"
 cp "$capi"/examples/*.py "$capi/tests/calls.py" "$capi/tests/unwind.c" "$root/try/"
 has_no rt rattle gcc cc clang tcc python3
 inside "apt-get update" apt-get update
@@ -222,6 +223,29 @@ says '^=> 0x[0-9a-f]+ <main(\+[0-9]+)?>: ' "feddurzai-list"
 says '^block 0x[0-9a-f]+ <main' "feddurzai-flow"
 if grep -q Traceback "$log"; then tail -40 "$log" >&2; die "the GDB commands raised a Python exception"; fi
 say "gdb: feddurzai-list and feddurzai-flow ran in a stopped process"
+
+# ---- Rust: with the shared library by pkg-config, and with the static one
+installs cargo rustc
+inside "the crate" tar -xzf "/packages/feddurzai-$version.crate" -C /try
+crate=/try/feddurzai-$version
+for kind in shared static; do
+    if [ "$kind" = shared ]; then wanted=0; else wanted=1; fi
+    # cargo WORDS..: runs cargo in the crate
+    cargo() { alone "cargo, $kind" env "FEDDURZAI_STATIC=$wanted" "CARGO_TARGET_DIR=/try/rust-$kind" cargo "$@" --offline --locked --manifest-path "$crate/Cargo.toml"; }
+    cargo test
+    ran=$(sed -n 's/^test result: ok\. \([0-9]*\) passed.*/\1/p' "$log" | awk '{ n += $1 } END { print n + 0 }')
+    [ "$ran" -gt 0 ] || die "cargo test, $kind: no test ran"
+    cargo build --release --example listing
+    found=$(readelf -W -d "$root/try/rust-$kind/release/examples/listing" | grep -c "NEEDED.*libfeddurzai.so.$interface\]" || true)
+    [ "$found" -eq $((1 - wanted)) ] || die "the example listing is not linked with the $kind library"
+    for style in intel att masm; do
+        # shellcheck disable=SC2016
+        inside "listing, $kind" sh -c '"$0" /try/ls.bin 64 "$1" "$2" | cmp - "/try/ls.$2"' "/try/rust-$kind/release/examples/listing" "$at" "$style"
+    done
+    say "Rust, $kind: $(run_in "" rustc --version) built the crate without a network; $ran tests passed; its listing equals the program's"
+    rm -r "$root/try/rust-$kind"
+done
+rm -r "$root$crate"
 
 # ---- removed
 paths=$(run_in "" dpkg -L feddurzai "$library" libfeddurzai-dev python3-feddurzai | sort -u)

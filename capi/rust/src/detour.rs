@@ -1,0 +1,168 @@
+//! Hooks.
+
+use crate::error::{Error, Place};
+use crate::moving::size_of;
+use crate::sys::{self, Library, MAX_PATCH};
+use alloc::vec;
+use alloc::vec::Vec;
+
+/// The target of a moved branch that went to the function's own start.
+///
+/// ```
+/// use feddurzai::{Detour, DetourStart};
+///
+/// // test ecx, ecx; jne to the start; xor eax, eax; nop; ret
+/// let function = b"\x85\xC9\x75\xFC\x31\xC0\x90\xC3";
+/// let looping = Detour::new(64, 0x1000, function, 0x2000, 0x3000, DetourStart::Moved)?;
+/// assert_eq!(looping.trampoline()[..4], [0x85, 0xC9, 0x75, 0xFC]);
+/// # Ok::<(), feddurzai::Error>(())
+/// ```
+#[derive(Clone, Copy, Debug, PartialEq, Eq, Hash)]
+#[non_exhaustive]
+pub enum DetourStart {
+    /// The moved first instruction: a loop stays in the trampoline.
+    Moved = 0,
+    /// The start, and so the replacement: a recursive call is hooked too.
+    Hooked = 1,
+}
+
+/// The form of the jump from the function to the replacement.
+///
+/// ```
+/// use feddurzai::{Detour, DetourForm, DetourStart};
+///
+/// // sub rsp, 0x18; xor eax, eax; ret, with the replacement out of reach
+/// let function = b"\x48\x83\xEC\x18\x31\xC0\xC3";
+/// let detour = Detour::new(64, 0x1000, function, 0x7fff_0000_0000, 0x3000, DetourStart::Moved)?;
+/// assert_eq!(detour.form(), DetourForm::Relay);
+/// # Ok::<(), feddurzai::Error>(())
+/// ```
+#[derive(Clone, Copy, Debug, PartialEq, Eq, Hash)]
+#[non_exhaustive]
+pub enum DetourForm {
+    /// 5 bytes (3 in 16-bit code): a near jump.
+    Near,
+    /// 64-bit mode, 5 bytes: a near jump to a relay after the trampoline.
+    Relay,
+    /// 64-bit mode, 14 bytes: `jmp [rip]`, and the address in the 8 bytes that follow.
+    Absolute,
+}
+
+/// Both parts of a hook. The patch overwrites the first bytes of the function and jumps to the replacement. The
+/// trampoline runs the overwritten instructions and continues after them, so calling it is calling the original
+/// function.
+///
+/// Writing the two into the program is left to the caller; `docs/hooks.md` of the sources says what a hook must take
+/// care of.
+///
+/// ```
+/// use feddurzai::{Detour, DetourStart, Error};
+///
+/// // sub rsp, 0x18; xor eax, eax; ret
+/// let function = b"\x48\x83\xEC\x18\x31\xC0\xC3";
+/// let detour = Detour::new(64, 0x1000, function, 0x2000, 0x3000, DetourStart::Moved)?;
+/// // jmp 0x2000; int3
+/// assert_eq!(detour.patch(), b"\xE9\xFB\x0F\x00\x00\xCC");
+/// // sub, xor, jmp 0x1006
+/// assert_eq!(detour.trampoline(), b"\x48\x83\xEC\x18\x31\xC0\xE9\xFB\xDF\xFF\xFF");
+/// assert_eq!(detour.jump_back(), Some(6));
+///
+/// // xor eax, eax; inc eax; cmp eax, edi; jb to the second; ret: the loop enters the overwritten bytes
+/// let refused = Detour::new(64, 0x1000, b"\x31\xC0\xFF\xC0\x39\xF8\x72\xFA\xC3", 0x2000, 0x3000, DetourStart::Moved);
+/// assert_eq!(refused.err(), Some(Error::Entered { from: 6, to: 2 }));
+/// # Ok::<(), Error>(())
+/// ```
+#[derive(Clone, Debug, PartialEq, Eq)]
+pub struct Detour {
+    patch: Vec<u8>,
+    trampoline: Vec<u8>,
+    jump_back: usize,
+    slots_at: usize,
+    relay_at: usize,
+    form: DetourForm,
+}
+
+impl Detour {
+    /// Makes a hook of the function at `ip` whose bytes from the first are `code`, at most 1 MiB. `to` is the address of
+    /// the replacement, and `place` the address at which the trampoline will be placed. Within 2 gigabytes of the function
+    /// the jump has 5 bytes, wherever the replacement is.
+    ///
+    /// Give the whole function: a branch into the overwritten bytes is found in these bytes alone, and only where control
+    /// can be followed. Code that follows an indirect jump may be missed.
+    ///
+    /// # Errors
+    ///
+    /// [`Error::BadMode`], [`Error::TooLarge`], [`Error::Invalid`], [`Error::TooShort`], [`Error::Small`],
+    /// [`Error::Ends`], [`Error::Entered`], [`Error::Wraps`], [`Error::TooFar`] or [`Error::NoMemory`].
+    pub fn new(bitness: u32, ip: u64, code: &[u8], to: u64, place: u64, start: DetourStart) -> Result<Detour, Error> {
+        let library = Library::get()?;
+        let (mut patch, mut trampoline) = (vec![0; MAX_PATCH], Vec::new());
+        let mut report = sys::DetourReport::default();
+        let mut call = |trampoline: &mut [u8], report: &mut sys::DetourReport| {
+            library.detour(bitness, ip, code, to, place, start as u32, &mut patch, trampoline, report)
+        };
+        let mut status = call(&mut trampoline, &mut report);
+        if status == -6 {
+            trampoline = vec![0; size_of(report.bytes)?];
+            status = call(&mut trampoline, &mut report);
+        }
+        if status < 0 {
+            return Err(Error::of(status, Place { at: report.at, address: report.target, count: 0 }));
+        }
+        patch.truncate(size_of(report.taken)?);
+        let form = match report.form {
+            2 => DetourForm::Relay,
+            3 => DetourForm::Absolute,
+            _ => DetourForm::Near,
+        };
+        Ok(Detour {
+            patch,
+            jump_back: size_of(report.jump_back)?,
+            slots_at: size_of(report.slots_at)?,
+            relay_at: size_of(report.relay_at)?,
+            trampoline,
+            form,
+        })
+    }
+
+    /// The bytes to write over the first bytes of the function.
+    #[must_use]
+    pub fn patch(&self) -> &[u8] {
+        &self.patch
+    }
+
+    /// The bytes to write to the place of the trampoline.
+    #[must_use]
+    pub fn trampoline(&self) -> &[u8] {
+        &self.trampoline
+    }
+
+    /// The form of the jump to the replacement.
+    #[must_use]
+    pub const fn form(&self) -> DetourForm {
+        self.form
+    }
+
+    /// An offset in the trampoline; an absent part has the offset of the end.
+    fn part(&self, offset: usize) -> Option<usize> {
+        Some(offset).filter(|&offset| offset < self.trampoline.len())
+    }
+
+    /// The offset of the jump back in the trampoline, `None` if control ends in the overwritten instructions.
+    #[must_use]
+    pub fn jump_back(&self) -> Option<usize> {
+        self.part(self.jump_back)
+    }
+
+    /// The offset of the first slot of 8 bytes in the trampoline, `None` if there are none.
+    #[must_use]
+    pub fn slots_at(&self) -> Option<usize> {
+        self.part(self.slots_at)
+    }
+
+    /// The offset of the relay in the trampoline, `None` if there is none.
+    #[must_use]
+    pub fn relay_at(&self) -> Option<usize> {
+        self.part(self.relay_at)
+    }
+}
