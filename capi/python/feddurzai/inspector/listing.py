@@ -3,14 +3,16 @@
 from __future__ import annotations
 
 import json
-from typing import Any, Dict, Iterator, List, Optional, TextIO
+from typing import Any, Dict, Iterator, List, Optional, TextIO, Tuple
 
 from .. import _native
 from .elf import Function, Program
-from .scan import BAD, Xrefs, chunks, references
+from .scan import BAD, Chunk, Xrefs, chunks, references
 from .texts import Painter, relocation_in
 
 _BAD_TEXT = "(bad)"
+# how many texts are kept
+MOST_KNOWN = 1 << 18
 
 
 def functions(program: Program) -> List[Dict[str, Any]]:
@@ -28,13 +30,13 @@ def write_functions(program: Program, out: TextIO) -> None:
             out.write(f"{function.start:0{width}x} {function.size:8} {name}{' (ifunc)' if function.ifunc else ''}\n")
 
 
-def _targets(program: Program, chunk: Any, offsets: List[int], start: int) -> Dict[int, str]:
-    """For the items of a chunk that name an address with a symbol: the symbol."""
-    found = {}
-    for item, target, _ in references(chunk):
-        symbol = program.symbol_of(target)
-        if symbol is not None:
-            found[item] = symbol
+# an item of a listing: its address, bytes and text, and the symbol that is shown after the text
+Line = Tuple[int, bytes, str, Optional[str]]
+
+
+def _symbols(program: Program, chunk: Chunk, offsets: List[int], start: int) -> Dict[int, Optional[str]]:
+    """For the items of a chunk that name an address: the symbol of the address, None if it has none."""
+    found = {item: program.symbol_of(target) for item, target, _ in references(chunk)}
     if program.is_object:
         for item in range(len(offsets) - 1):
             name = relocation_in(program, start + offsets[item], offsets[item + 1] - offsets[item])
@@ -43,55 +45,53 @@ def _targets(program: Program, chunk: Any, offsets: List[int], start: int) -> Di
     return found
 
 
-class Line:
-    """An item of a listing."""
-
-    __slots__ = ("address", "code", "text", "symbol")
-
-    def __init__(self, address: int, code: bytes, text: str, symbol: Optional[str]) -> None:
-        self.address, self.code, self.text, self.symbol = address, code, text, symbol
-
-
 def lines(program: Program, function: Function, style: int) -> Iterator[List[Line]]:
     """The items of a function or section, some at a time."""
     bits, start, code = program.bits, function.start, program.code_of(function)
     text, room, size = _native.text, _native.TextRoom(), _native.MAX_TEXT
+    # the text of an instruction that names no address depends on its bytes alone
+    known: Dict[bytes, str] = {}
     for chunk in chunks(bits, start, code):
-        offsets, highs = chunk.offsets(), chunk.highs
-        symbols = _targets(program, chunk, offsets, start).get
-        found = []
-        for n, high in enumerate(highs):
-            at, end = offsets[n], offsets[n + 1]
-            if high == BAD:
-                words = _BAD_TEXT
-            else:
+        offsets = chunk.offsets()
+        symbols = _symbols(program, chunk, offsets, start)
+        found, at = [], chunk.offset
+        for n, (high, end) in enumerate(zip(chunk.highs, offsets[1:])):
+            bytes_ = code[at:end]
+            words = _BAD_TEXT if high == BAD else known.get(bytes_)
+            if words is None or n in symbols and high != BAD:
                 text(bits, style, chunk.struct_at(n), room, size)
                 words = room.value.decode()
-            found.append(Line(start + at, code[at:end], words, symbols(n)))
+                if n not in symbols and len(known) < MOST_KNOWN:
+                    known[bytes_] = words
+            found.append((start + at, bytes_, words, symbols.get(n)))
+            at = end
         yield found
+
+
+def _heading(program: Program, painter: Painter, address: int, xrefs: Optional[Xrefs]) -> str:
+    """The lines in front of an address: its symbols, and the functions that branch to it."""
+    width = program.bits // 4
+    written = "".join(painter.paint("title", f"{address:0{width}x} <{name}>:") + "\n" for name in program.names_at(address))
+    callers = [] if xrefs is None else xrefs.callers(program, address)
+    return written + (painter.paint("note", f"  called from {', '.join(callers)}") + "\n" if callers else "")
 
 
 def write(program: Program, function: Function, style: int, colours: bool, out: TextIO, xrefs: Optional[Xrefs] = None) -> None:
     """Lists a function or section, with a line in front of each symbol."""
-    width, painter = program.bits // 4, Painter(colours)
+    width, painter, headed = program.bits // 4, Painter(colours), set(program.starts)
+    plain = f"  %0{width}x  %-30s %s%s\n"
     for some in lines(program, function, style):
         written = []
-        for line in some:
-            names = program.names_at(line.address)
-            for name in names:
-                written.append(painter.paint("title", f"{line.address:0{width}x} <{name}>:") + "\n")
-            if names and xrefs is not None:
-                callers = xrefs.callers(program, line.address)
-                if callers:
-                    written.append(painter.paint("note", f"  called from {', '.join(callers)}") + "\n")
-            beside = "" if line.symbol is None else f" <{line.symbol}>"
+        for address, code, text, symbol in some:
+            if address in headed:
+                written.append(_heading(program, painter, address, xrefs))
+            beside = "" if symbol is None else f" <{symbol}>"
             if colours:
-                kind = "bad" if line.text == _BAD_TEXT else ""
-                text = painter.paint(kind, line.text) if kind else painter.text(line.text)
-                address, code = painter.paint("address", f"{line.address:0{width}x}"), painter.paint("bytes", f"{line.code.hex():30}")
-                written.append(f"  {address}  {code} {text}{painter.paint('symbol', beside)}\n")
+                words = painter.paint("bad", text) if text is _BAD_TEXT else painter.text(text)
+                where, bytes_ = painter.paint("address", f"{address:0{width}x}"), painter.paint("bytes", f"{code.hex():30}")
+                written.append(f"  {where}  {bytes_} {words}{painter.paint('symbol', beside)}\n")
             else:
-                written.append(f"  {line.address:0{width}x}  {line.code.hex():30} {line.text}{beside}\n")
+                written.append(plain % (address, code.hex(), text, beside))
         out.write("".join(written))
 
 
@@ -99,10 +99,10 @@ def write_json(program: Program, function: Function, style: int, out: TextIO) ->
     """Writes the items of a function or section as a JSON array, one item a line."""
     separator = "[\n"
     for some in lines(program, function, style):
-        for line in some:
-            item = {"address": line.address, "bytes": line.code.hex(), "text": line.text}
-            if line.symbol is not None:
-                item["symbol"] = line.symbol
+        for address, code, text, symbol in some:
+            item = {"address": address, "bytes": code.hex(), "text": text}
+            if symbol is not None:
+                item["symbol"] = symbol
             out.write(separator + json.dumps(item))
             separator = ",\n"
     out.write("[]\n" if separator == "[\n" else "\n]\n")
