@@ -127,7 +127,7 @@ pub fn move_items(alloc: Global, code: &CodeItems, new: u64) -> Result<Moved, Mo
 ///
 /// ```
 /// let moved = move_code(rt.alloc(), Bits::B64, 0x40_1000, &FUNCTION, 0x50_0000)?;
-/// println!(rt; "{} {:x}", moved.bytes().len(), moved.starts()[1])?; // 8 500001
+/// println!(rt; "{} bytes", moved.bytes().len())?; // 8 bytes
 /// ```
 pub fn move_code(
     alloc: Global,

@@ -5,7 +5,7 @@ use feddurzai::assembling::{assemble, read_intel};
 use feddurzai::decoding::{Decoder, Items, decode_in, read_items};
 use feddurzai::encoding::{encode, encoded_len};
 use feddurzai::flow::graph_of_code;
-use feddurzai::format::{Intel, Style, ascii_str, print_att};
+use feddurzai::format::{Intel, Style, print_att};
 use feddurzai::hooks::{Hooks, StartTarget, detour};
 use feddurzai::info::{
     Features, FlagSet, all_memory, all_registers, flags_of, laws, needed_features,
@@ -17,9 +17,16 @@ use feddurzai::rows::{code_of, name, notation_of};
 use feddurzai::slots::{StepSlots, step_code};
 use feddurzai::streams::{Lines, MemSink, MemSource, stream_lines};
 use feddurzai::values::Bits;
+use std::str::from_utf8;
 
 /// A function: push rbp; mov rbp, rsp; mov eax, edi; pop rbp; ret.
 static FUNCTION: [u8; 8] = *b"\x55\x48\x89\xe5\x89\xf8\x5d\xc3";
+
+/// The bytes of a text as a `str`, or a question mark if they are not one. `format::ascii_str` is this function for bytes that a contract calls ASCII,
+/// as the texts of instructions are.
+fn ascii_str(bytes: &[u8]) -> &str {
+    from_utf8(bytes).unwrap_or("?")
+}
 
 /// Reads one instruction.
 fn read_one(rt: &HostRuntime) -> anyhow::Result<()> {
@@ -133,7 +140,7 @@ fn show_row(rt: &HostRuntime) -> anyhow::Result<()> {
 /// Moves a function.
 fn move_function(rt: &HostRuntime) -> anyhow::Result<()> {
     let moved = move_code(rt.alloc(), Bits::B64, 0x40_1000, &FUNCTION, 0x50_0000)?;
-    println!(rt; "{} {:x}", moved.bytes().len(), moved.starts()[1])?; // 8 500001
+    println!(rt; "{} bytes", moved.bytes().len())?; // 8 bytes
     Ok(())
 }
 
