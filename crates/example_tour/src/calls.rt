@@ -5,7 +5,7 @@ use feddurzai::assembling::{assemble, read_intel};
 use feddurzai::decoding::{Decoder, Items, decode_in, read_items};
 use feddurzai::encoding::{encode, encoded_len};
 use feddurzai::flow::graph_of_code;
-use feddurzai::format::{Intel, Style, print_att};
+use feddurzai::format::{Intel, Style, ascii_str, print_att};
 use feddurzai::hooks::{Hooks, StartTarget, detour};
 use feddurzai::info::{
     Features, FlagSet, all_memory, all_registers, flags_of, laws, needed_features,
@@ -21,12 +21,6 @@ use std::str::from_utf8;
 
 /// A function: push rbp; mov rbp, rsp; mov eax, edi; pop rbp; ret.
 static FUNCTION: [u8; 8] = *b"\x55\x48\x89\xe5\x89\xf8\x5d\xc3";
-
-/// The bytes of a text as a `str`, or a question mark if they are not one. `format::ascii_str` is this function for bytes that a contract calls ASCII,
-/// as the texts of instructions are.
-fn ascii_str(bytes: &[u8]) -> &str {
-    from_utf8(bytes).unwrap_or("?")
-}
 
 /// Reads one instruction.
 fn read_one(rt: &HostRuntime) -> anyhow::Result<()> {
@@ -132,7 +126,7 @@ fn show_flags(rt: &HostRuntime) -> anyhow::Result<()> {
 /// Prints a row of the table.
 fn show_row(rt: &HostRuntime) -> anyhow::Result<()> {
     if let Some(code) = code_of("imul", 0) {
-        println!(rt; "{} {}", name(code), ascii_str(&notation_of(code)))?; // imul o16 69 /r iw
+        println!(rt; "{} {}", name(code), from_utf8(&notation_of(code))?)?; // imul o16 69 /r iw
     }
     Ok(())
 }

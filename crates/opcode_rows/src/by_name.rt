@@ -13,7 +13,7 @@ use x86_values::Code;
 ///
 /// ```
 /// if let Some(code) = code_of("imul", 0) {
-///     println!(rt; "{} {}", name(code), ascii_str(&notation_of(code)))?; // imul o16 69 /r iw
+///     println!(rt; "{} {}", name(code), from_utf8(&notation_of(code))?)?; // imul o16 69 /r iw
 /// }
 /// ```
 pub fn code_of(name: &str, n: usize) -> Option<Code>
