@@ -1,22 +1,10 @@
 //! Modes, styles, registers and other words as numbers, and back.
 
 ghost use Rattle.std.specs.Prelude.{◌≡◌, ◌==◌, if◌then◌else◌};
-ghost use Rattle.x86_values.specs.Wrapping.{width};
 ghost use Rattle.c_calls.specs.Numbers as spec;
 
 use text_parts::style::Style;
-use x86_values::{Bits, DispSize, Register, Rep, Segment};
-
-/// The number of bits.
-fn bits_number(bits: Bits) -> u8
-    ensures { result ≡ width bits }
-{
-    match bits {
-        Bits::B16 => 16,
-        Bits::B32 => 32,
-        Bits::B64 => 64,
-    }
-}
+use x86_values::{Bits, DispSize, Register, Rep, Segment, width};
 
 /// The mode of so many bits.
 #[tactic(auto, unfolding(crate::specs::Numbers::bits_numbered))]
@@ -37,7 +25,7 @@ pub(crate) fn asize_number(asize: Option<Bits>) -> u8
 {
     match asize {
         None => 0,
-        Some(bits) => bits_number(bits),
+        Some(bits) => width(bits),
     }
 }
 

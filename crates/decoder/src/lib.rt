@@ -12,7 +12,7 @@ mod items;
 mod reading;
 pub mod reading_laws;
 
-pub use by_mode::{decode_in, decode_onto};
+pub use by_mode::{decode_in, decode_onto, read_at};
 pub use cursor::Decoder;
 pub use items::{Item, Items};
 pub use modrm_sib::UNREAD;

@@ -9,9 +9,8 @@ ghost use Rattle.flow_graph.specs.Exits.{AreExits};
 ghost use Rattle.flow_graph.specs.Told.{Tells};
 ghost use Rattle.operand_info.specs.ByCode as columns;
 
-use crate::reading::read_at;
-use decoder::DecodeError;
 use decoder::reading_laws::bytes_have_one_reading;
+use decoder::{DecodeError, read_at};
 use operand_info::laws::well_formed_codes_are_in_the_table;
 use operand_info::{Flow, flow_of, near_target};
 use plain_spelling::numbers::distance;

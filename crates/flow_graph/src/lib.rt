@@ -5,7 +5,6 @@ mod blocks;
 mod exits;
 mod graph;
 pub mod laws;
-mod reading;
 mod walk;
 
 pub use exits::{Exits, exits_at, goes_on};

@@ -4,7 +4,7 @@ use Rattle.row_lists.specs.RowFields.Candidates.{rows_with_codes, of_number, at_
 use Rattle.instruction_parts.specs.Sizes.{exists_in}
 use Rattle.row_lists.specs.RowFields.Holds.{prefix_holds, w_holds, rex_b_holds}
 use Rattle.row_lists.specs.RowFields.Masks.{nth, allows, meets, two, three, four, reg_mask, rm_mask, marked_size, size_mask, masks}
-use Rattle.row_lists.specs.RowFields.FieldNumbers.{size_number}
+use Rattle.x86_values.specs.Modes.{size_number}
 use Rattle.opcode_rows.specs.Parts.{integer_rows, integer_flat, x87_rows, x87_flat, sse_rows, sse_flat, vex_rows, vex_flat}
 use Rattle.opcode_rows.specs.Table.{spots, rows_in, table}
 use Rattle.handler_tables.specs.Nodes.{nodes2, nodes3, nodes4, nodes8, nodes256, splits2, splits3, splits4, splits8}

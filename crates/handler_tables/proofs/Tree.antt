@@ -5,7 +5,7 @@ use Rattle.std.specs.Prelude.{Option, Some, None}
 use Rattle.x86_values.specs.declared.Bits.{Bits}
 use Rattle.x86_values.specs.declared.Bits.TheVariants.{B16, B32, B64}
 use Rattle.instruction_parts.specs.declared.row_types.Row.{Row}
-use Rattle.row_lists.specs.RowFields.FieldNumbers.{size_number}
+use Rattle.x86_values.specs.Modes.{size_number}
 use Rattle.handler_tables.specs.declared.node.Next.{Next}
 use Rattle.handler_tables.specs.declared.node.Next.TheVariants.{Stop, Leaf, N2, N3, N4, N8, N256}
 use Rattle.handler_tables.specs.declared.node.Split.{Split}

@@ -9,7 +9,7 @@ use Rattle.x86_values.specs.declared.Code.{Code}
 use Rattle.row_lists.specs.declared.row_fields.Fields.{Fields}
 use Rattle.row_lists.specs.RowFields.Holds.{codes_holding}
 use Rattle.row_lists.specs.RowFields.Masks.{values}
-use Rattle.row_lists.specs.RowFields.FieldNumbers.{size_number}
+use Rattle.x86_values.specs.Modes.{size_number}
 use Rattle.opcode_rows.specs.Table.{table}
 use Rattle.handler_tables.specs.declared.node.Next.{Next}
 use Rattle.handler_tables.specs.declared.node.Next.TheVariants.{Stop, Leaf, N2, N3, N4, N8, N256}

@@ -4,7 +4,8 @@ use Rattle.x86_values.specs.declared.Bits.{Bits}
 use Rattle.instruction_parts.specs.Bytes.{bit}
 use Rattle.row_lists.specs.declared.row_fields.Fields.{Fields}
 use Rattle.row_lists.specs.RowFields.Holds.{map_number, byte_of, prefix_of}
-use Rattle.row_lists.specs.RowFields.FieldNumbers.{size_number, plain_size}
+use Rattle.x86_values.specs.Modes.{size_number}
+use Rattle.row_lists.specs.RowFields.FieldNumbers.{plain_size}
 use Rattle.handler_tables.specs.declared.node.Split.{Split}
 use Rattle.handler_tables.specs.declared.node.Split.TheVariants as split
 

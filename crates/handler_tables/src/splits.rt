@@ -2,7 +2,8 @@
 ghost use Rattle.std.specs.Prelude.{◌≡◌, is_some};
 ghost use Rattle.prefixes.specs.Answer.{mode_of};
 ghost use Rattle.row_lists.specs.RowFields.Holds.{map_number, prefix_of, byte_of};
-ghost use Rattle.row_lists.specs.RowFields.FieldNumbers.{size_number, plain_size};
+ghost use Rattle.row_lists.specs.RowFields.FieldNumbers.{plain_size};
+ghost use Rattle.x86_values.specs.Modes.{size_number};
 ghost use Rattle.instruction_parts.specs.Bytes as parts;
 ghost use Rattle.instruction_parts.specs.Counting.{rex_bit};
 ghost use Rattle.opcode_rows.specs.UniqueSpelling.FieldsOf as fields;
@@ -13,7 +14,7 @@ use instruction_parts::PrefixState;
 use instruction_parts::sizes::bit_of_rex;
 use prefixes::mode_of;
 use row_lists::row_fields::{Fields, Map, Rep};
-use x86_values::Bits;
+use x86_values::{Bits, size_number};
 
 /// Returns the number of the field by which a node splits, from a front and the byte after its opcode byte.
 // Not built into the walk: there each of these numbers would be made before the first node, and most walks need one or two.
@@ -33,8 +34,8 @@ pub(crate) fn front_field<const BITS: u32>(
         Split::Place => bit(byte_number(byte) / 64 == 3),
         Split::Reg => (byte_number(byte) / 8 % 8) as usize,
         Split::Rm => (byte_number(byte) % 8) as usize,
-        Split::Mode => size_number(mode_of::<BITS>()),
-        Split::Size => size_number(plain_size(mode_of::<BITS>(), size66_of(state), w_of(state))),
+        Split::Mode => usize::from(size_number(mode_of::<BITS>())),
+        Split::Size => usize::from(size_number(plain_size(mode_of::<BITS>(), size66_of(state), w_of(state)))),
         Split::W => bit(w_of(state)),
         Split::L => bit(l_of(state)),
         Split::RexB => bit(bit_of_rex(0, state.rex)),
@@ -53,8 +54,8 @@ pub(crate) fn given_field<const BITS: u32>(split: Split, fields: &Fields) -> usi
         Split::Place => bit(byte_number(fields.modrm) / 64 == 3),
         Split::Reg => (byte_number(fields.modrm) / 8 % 8) as usize,
         Split::Rm => (byte_number(fields.modrm) % 8) as usize,
-        Split::Mode => size_number(mode_of::<BITS>()),
-        Split::Size => size_number(plain_size(mode_of::<BITS>(), fields.size66, fields.w)),
+        Split::Mode => usize::from(size_number(mode_of::<BITS>())),
+        Split::Size => usize::from(size_number(plain_size(mode_of::<BITS>(), fields.size66, fields.w))),
         Split::W => bit(fields.w),
         Split::L => bit(fields.l),
         Split::RexB => bit(fields.rex_b),
@@ -72,7 +73,7 @@ pub(crate) fn front_size_field<const BITS: u32>(
     ensures { result ≡ field_at (mode_of BITS) split (fields.fields_of state.now byte) }
 {
     match split {
-        Split::Mode => size_number(mode_of::<BITS>()),
+        Split::Mode => usize::from(size_number(mode_of::<BITS>())),
         Split::Size => state_size_number::<BITS>(state),
         _ => front_field::<BITS>(split, state, byte),
     }
@@ -85,7 +86,7 @@ fn state_size_number<const BITS: u32>(state: &PrefixState) -> usize
     ensures { result ≡ size_number
         (plain_size (mode_of BITS) (fields.size66_of state.now.vex state.now.size66) (fields.w_of state.now.vex state.now.rex)) }
 {
-    size_number(plain_size(mode_of::<BITS>(), size66_of(state), w_of(state)))
+    usize::from(size_number(plain_size(mode_of::<BITS>(), size66_of(state), w_of(state))))
 }
 
 /// A bit as a number.
@@ -177,17 +178,6 @@ fn prefix_number(rep: Rep, size66: bool) -> usize
         (Rep::F2, _) => 3,
         (Rep::None, true) => 1,
         (Rep::None, false) => 0,
-    }
-}
-
-/// A size by number: 0, 1 and 2 for 16, 32 and 64.
-fn size_number(size: Bits) -> usize
-    ensures { result ≡ size_number size }
-{
-    match size {
-        Bits::B16 => 0,
-        Bits::B32 => 1,
-        Bits::B64 => 2,
     }
 }
 

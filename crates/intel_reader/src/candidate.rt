@@ -1,25 +1,13 @@
 //! The one instruction that the words of a text can be of, by its row, its address size and its displacement size.
 
-ghost use Rattle.std.specs.Prelude.{◌≡◌, ◌<◌, ◌^◌};
-ghost use Rattle.x86_values.specs.Wrapping.{width};
+ghost use Rattle.std.specs.Prelude.{◌≡◌, ◌<◌};
 ghost use Rattle.intel_reader.specs.Candidate as spec;
 
 use instruction_parts::kinds::{Method, method_of_kind};
 use instruction_parts::row_types::Row;
 use intel_words::words::{Inside, IntelWords, OperandText, SignedText};
 use row_fit::tail_fits::kind_at;
-use x86_values::{Bits, Code, DispSize, Instr, Mem, Operand, Register, Segment, wrap};
-
-/// 2 to the number of bits.
-fn modulus(bits: Bits) -> u128
-    ensures { result ≡ 2 ^ width bits }
-{
-    match bits {
-        Bits::B16 => 0x1_0000,
-        Bits::B32 => 0x1_0000_0000,
-        Bits::B64 => 0x1_0000_0000_0000_0000,
-    }
-}
+use x86_values::{Bits, Code, DispSize, Instr, Mem, Operand, Register, Segment, modulus, wrap};
 
 /// A number by its sign and its distance from zero, modulo 2 to the address size.
 #[tactic(auto, unfolding(crate::specs::Candidate::signed_number))]

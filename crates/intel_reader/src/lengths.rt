@@ -2,16 +2,16 @@
 
 ghost use Rattle.std.specs.Prelude.{◌≡◌, ◌<◌, ◌≤◌};
 ghost use Rattle.instruction_parts.specs.Bytes as bytes;
-ghost use Rattle.row_fit.specs.Sound.{has_modrm_rule};
 ghost use Rattle.intel_reader.specs.Lengths as spec;
 
 use crate::possible::has_address;
 use instruction_parts::bytes::lead_len;
-use instruction_parts::row_types::{ModRmRule, Row};
+use instruction_parts::row_types::Row;
 use instruction_parts::sizes::is_vex_row;
 use intel_words::words::IntelWords;
 use plain_spelling::addresses::displacement_count;
 use plain_spelling::front::{asks_66, asks_rex_w, plain_size};
+use row_fit::fits::has_modrm;
 use row_fit::tail_fits::immediates_bytes;
 use x86_values::{Bits, DispSize};
 
@@ -22,17 +22,6 @@ fn byte_if(there: bool) -> u8
     ensures small { result < 2 }
 {
     if there { 1 } else { 0 }
-}
-
-/// Whether a row has a ModRM byte.
-#[inline]
-fn has_modrm(row: &Row) -> bool
-    ensures { result ≡ has_modrm_rule row.now.modrm }
-{
-    match row.modrm {
-        ModRmRule::No => false,
-        _ => true,
-    }
 }
 
 /// The fewest bytes in front of the opcode byte.

@@ -10,10 +10,10 @@ ghost use Rattle.instruction_parts.specs.Sizes.{state_size};
 ghost use Rattle.row_meaning.specs.Given.{has_one_immediate};
 
 use crate::parts::{modrm_of_byte, sib_of_byte};
-use crate::read::has_modrm;
 use instruction_parts::row_types::Row;
 use instruction_parts::sizes::state_address_size;
 use instruction_parts::{ModRm, PrefixState, Sib};
+use row_fit::fits::has_modrm;
 use row_fit::tail_fits::needs_sib;
 use row_meaning::given::{Given, given_instr_into};
 use row_meaning::operands::Behind;

@@ -6,14 +6,15 @@ ghost use Rattle.modrm_sib.specs.Answer as spec;
 ghost use Rattle.modrm_sib.specs.Parts as parts;
 ghost use Rattle.row_fit.specs.Fits as fits;
 ghost use Rattle.instruction_parts.specs.Sizes.{state_size};
-ghost use Rattle.row_fit.specs.Sound.{sound, has_modrm_rule};
+ghost use Rattle.row_fit.specs.Sound.{sound};
 
 use crate::TailError;
 use crate::ends::{some_modrm_fits, some_sib_fits};
 use crate::parts::{displacement_len, modrm_of_byte, parts_fit, sib_of_byte, takes_sib};
-use instruction_parts::row_types::{ModRmRule, Row};
+use instruction_parts::row_types::Row;
 use instruction_parts::sizes::state_size;
 use instruction_parts::{ModRm, PrefixState, Sib};
+use row_fit::fits::has_modrm;
 use row_fit::tail_fits::immediates_bytes;
 use row_meaning::operands::{Behind, instr_into};
 use x86_values::{Bits, Code, Decoded, wrap};
@@ -104,17 +105,6 @@ fn read_rest(
     instr_into(bits, code, row, state, &behind, &mut out.instr);
     out.len = len;
     Ok(())
-}
-
-/// Whether the row has a ModRM.
-#[inline]
-pub(crate) fn has_modrm(row: &Row) -> bool
-    ensures { result ≡ has_modrm_rule row.now.modrm }
-{
-    match row.modrm {
-        ModRmRule::No => false,
-        _ => true,
-    }
 }
 
 /// ModRM and SIB of a tail, and what follows them.

@@ -5,7 +5,7 @@ ghost use Rattle.move_goals.specs.Items as spec;
 
 use crate::items::Placed;
 use branch_sizes::BlockSpan;
-use x86_values::Bits;
+use x86_values::{Bits, modulus};
 
 /// Returns the address after an item, which may lie past the end of all addresses.
 fn old_end(item: &Placed) -> u128
@@ -46,12 +46,7 @@ pub fn first_disorder(items: &[Placed], spans: &[BlockSpan]) -> Option<usize>
 pub fn passes(bits: Bits, end: u128) -> bool
     ensures { result ≡ spec.passes bits end }
 {
-    let width = match bits {
-        Bits::B16 => 16,
-        Bits::B32 => 32,
-        Bits::B64 => 64,
-    };
-    end > 1 << width
+    end > modulus(bits)
 }
 
 /// Returns the address after the last item of a block whose first item has the number `start`; the new base if the block is empty.

@@ -7,7 +7,7 @@ ghost use Rattle.plain_spelling.specs.Values as spec;
 
 use arrayvec::ArrayVec;
 use row_meaning::numbers::top_of;
-use x86_values::{Bits, wrap};
+use x86_values::{Bits, modulus, width, wrap};
 
 /// Appends the low `n` bytes of a number, lowest first, to an array of eight.
 pub fn append_low_bytes(bytes: &mut ArrayVec<u8, 8>, n: u8, x: u64)
@@ -31,35 +31,11 @@ pub fn push_low_bytes<const N: usize>(bytes: &mut ArrayVec<u8, N>, n: u8, x: u64
     }
 }
 
-/// 2 to the number of bits of a size.
-fn top_of_width(size: Bits) -> u128
-    ensures value { result ≡ 2 ^ width size }
-    ensures small { result ≤ 2 ^ 64 }
-{
-    match size {
-        Bits::B16 => 0x1_0000,
-        Bits::B32 => 0x1_0000_0000,
-        Bits::B64 => 0x1_0000_0000_0000_0000,
-    }
-}
-
-/// The number of bits of a size.
-fn bits_of(size: Bits) -> u8
-    ensures value { result ≡ width size }
-    ensures small { result ≤ 64 }
-{
-    match size {
-        Bits::B16 => 16,
-        Bits::B32 => 32,
-        Bits::B64 => 64,
-    }
-}
-
 /// Returns whether a number is below 2 to the number of bits of a size.
 pub fn is_of_width(size: Bits, x: u64) -> bool
     ensures { result ≡ nat_lt x (2 ^ width size) }
 {
-    (x as u128) < top_of_width(size)
+    (x as u128) < modulus(size)
 }
 
 /// 2 to the number of bits of a size, less 1.
@@ -106,7 +82,7 @@ pub fn is_extended_of(n: u8, size: Bits, x: u64) -> bool
         return x == 0;
     }
     let half = half_of_bytes(n);
-    bits_of(size) <= 8 * n || x < half || last - x < half
+    width(size) <= 8 * n || x < half || last - x < half
 }
 
 /// Returns the distance from one address to another, modulo 2 to the size.

@@ -4,6 +4,7 @@ ghost use Rattle.std.specs.Prelude.{◌≡◌, ◌<◌, ◌+◌, Option, false};
 ghost use Rattle.std.specs.List.{list_all};
 ghost use Rattle.row_fit.specs.Fits as spec;
 ghost use Rattle.instruction_parts.specs.Kinds.{method_of};
+ghost use Rattle.row_fit.specs.Sound.{has_modrm_rule};
 
 use instruction_parts::counting::{forbids_vex, is_16, is_32, is_64, is_prefix};
 use instruction_parts::kinds::{Method, method_of_kind};
@@ -114,6 +115,14 @@ fn is_offset_kind(kind: OpKind) -> bool
         OpKind::Ob | OpKind::Ov => true,
         _ => false,
     }
+}
+
+/// Returns whether instructions of the row have a ModRM byte (Intel SDM volume 2, 2.1.3).
+#[inline]
+pub fn has_modrm(row: &Row) -> bool
+    ensures { result ≡ has_modrm_rule row.now.modrm }
+{
+    !matches!(row.modrm, ModRmRule::No)
 }
 
 /// Returns whether the row reads ModRM.mod.

@@ -16,7 +16,7 @@ use opcode_rows::{ROWS, name, row_of};
 use reading::{Answers, answers};
 use reading_examples::tell_lines;
 use sample::sample;
-use x86_values::{Bits, Code, Instr, same};
+use x86_values::{Bits, Code, Instr, same, width};
 
 /// The address of the instructions.
 const ADDRESS: u64 = 0x1000;
@@ -61,15 +61,6 @@ fn find(bits: Bits, instr: &Instr) -> Finding {
         Finding::Agrees
     } else {
         Finding::Differs
-    }
-}
-
-/// The number of bits of a mode.
-fn width(bits: Bits) -> u32 {
-    match bits {
-        Bits::B16 => 16,
-        Bits::B32 => 32,
-        Bits::B64 => 64,
     }
 }
 

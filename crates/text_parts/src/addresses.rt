@@ -1,8 +1,7 @@
 //! Addresses in a text.
 
-ghost use Rattle.std.specs.Prelude.{◌≡◌, ◌<◌, ◌≤◌, ◌+◌, ◌^◌, [], ◌++◌, length};
+ghost use Rattle.std.specs.Prelude.{◌≡◌, ◌<◌, ◌≤◌, ◌+◌, [], ◌++◌, length};
 ghost use Rattle.arrayvec.specs.ArrayVec.{array_vec_len};
-ghost use Rattle.x86_values.specs.Wrapping.{width};
 ghost use Rattle.text_parts.specs.Addresses as spec;
 
 use crate::numbers::{append_decimal, append_number};
@@ -10,7 +9,7 @@ use crate::registers::{append_override, append_register};
 use crate::style::Style;
 use crate::text::append_few;
 use arrayvec::ArrayVec;
-use x86_values::{Bits, DispSize, Mem, Register, Segment, wrap};
+use x86_values::{Bits, DispSize, Mem, Register, Segment, modulus, wrap};
 
 /// Returns whether a base is the instruction pointer.
 #[inline]
@@ -33,25 +32,13 @@ pub fn is_absolute(m: &Mem) -> bool
     m.base.is_none() && m.index.is_none()
 }
 
-/// 2 to the number of bits.
-#[inline]
-fn power_of(bits: Bits) -> u128
-    ensures { result ≡ 2 ^ width bits }
-{
-    match bits {
-        Bits::B16 => 0x1_0000,
-        Bits::B32 => 0x1_0000_0000,
-        Bits::B64 => 0x1_0000_0000_0000_0000,
-    }
-}
-
 /// Whether a number of address size is below zero as a signed number.
 #[inline]
 #[tactic(auto, unfolding(crate::specs::Addresses::is_negative))]
 fn is_negative(asize: Bits, d: u64) -> bool
     ensures { result ≡ spec.is_negative asize d }
 {
-    power_of(asize) - 1 < 2 * wrap(asize, d as u128) as u128
+    modulus(asize) - 1 < 2 * wrap(asize, d as u128) as u128
 }
 
 /// Its distance from zero as a signed number.
@@ -62,7 +49,7 @@ fn magnitude(asize: Bits, d: u64) -> u64
 {
     let x = wrap(asize, d as u128);
     if is_negative(asize, d) {
-        (power_of(asize) - x as u128) as u64
+        (modulus(asize) - x as u128) as u64
     } else {
         x
     }

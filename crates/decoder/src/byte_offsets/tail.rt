@@ -2,29 +2,18 @@
 
 ghost use Rattle.std.specs.Prelude.{◌≡◌, ◌+◌, ◌≤◌, length};
 ghost use Rattle.instruction_parts.specs.Bytes.{lead_bytes, modrm_bytes, sib_bytes};
-ghost use Rattle.row_fit.specs.Sound.{has_modrm_rule};
 ghost use Rattle.modrm_sib.specs.Parts as parts;
 ghost use Rattle.decoder.specs.ByteOffsets.Tails as spec;
 
 use crate::byte_offsets::layout::Lengths;
 use instruction_parts::bytes::lead_len;
-use instruction_parts::row_types::{ModRmRule, Row};
+use instruction_parts::row_types::Row;
 use instruction_parts::sizes::{size_bytes, state_address_size};
 use instruction_parts::{ModRm, PrefixState, Sib};
 use modrm_sib::{modrm_of_byte, sib_of_byte};
-use row_fit::fits::{reads_mode, reads_offset};
+use row_fit::fits::{has_modrm, reads_mode, reads_offset};
 use row_fit::tail_fits::{displacement_bytes, needs_sib};
 use x86_values::Bits;
-
-/// Whether the row has a ModRM.
-fn has_modrm(row: &Row) -> bool
-    ensures { result ≡ has_modrm_rule row.now.modrm }
-{
-    match row.modrm {
-        ModRmRule::No => false,
-        _ => true,
-    }
-}
 
 /// Returns the ModRM at the front of the tail, if the row has one.
 fn modrm_in(row: &Row, tail: &[u8]) -> Option<ModRm>

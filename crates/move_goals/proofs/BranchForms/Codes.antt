@@ -1,6 +1,7 @@
 -- The rows of the codes of branches.
 use Rattle.std.proofs.Common.{◌≡◌, ℕ, zero, suc, ◌+◌, ◌*◌, ◌/◌, ◌%◌, ◌<◌, ◌≤◌, List, [], ◌∷◌, ◌⊎◌, inl, inr, refl, ap, ◌∙◌, slice_get, arith}
 use Rattle.std.specs.Prelude.{Option, Some}
+use Rattle.x86_values.specs.Modes.{size_number}
 use Rattle.x86_values.specs.declared.Bits.{Bits}
 use Rattle.x86_values.specs.declared.Bits.TheVariants.{B16, B32, B64}
 use Rattle.instruction_parts.specs.declared.row_types.Row.{Row}
@@ -12,7 +13,7 @@ use Rattle.opcode_rows.specs.Parts.{integer_rows, integer_flat, x87_rows, x87_fl
 use Rattle.opcode_rows.specs.Table.{spots, rows_in, table}
 use Rattle.move_goals.specs.declared.branch_forms.branch.Action.TheVariants.{Jump, Call, Condition, Count}
 use Rattle.move_goals.specs.declared.branch_forms.generated_codes.TheConstants.{JMP_REL8, JMP_REL16, CALL_REL16, JO_REL8, JO_REL16, LOOPNE_REL8, JMP_RM64, CALL_RM64}
-use Rattle.move_goals.specs.BranchForms.Branches.{size_number, short_code, near_code, far_code}
+use Rattle.move_goals.specs.BranchForms.Branches.{short_code, near_code, far_code}
 use Rattle.move_goals.specs.BranchForms.Rows.{offset_row, memory_row}
 use Rattle.move_goals.specs.BranchForms.Facts.{CodeFacts}
 

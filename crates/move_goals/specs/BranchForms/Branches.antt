@@ -1,6 +1,7 @@
 -- Relative branches: the rows with an offset as their operand, and the code numbers of the rows that their images use (Intel SDM volume 2, CALL, JMP,
 -- Jcc, LOOP).
 use Rattle.std.specs.Prelude.{ℕ, ◌+◌, ◌*◌, ◌%◌, ◌==◌, Bool, true, false, not, ◌&&◌, nat_lt, if◌then◌else◌, Option, Some, None, slice_get, is_some, bit_xor}
+use Rattle.x86_values.specs.Modes.{size_number}
 use Rattle.x86_values.specs.declared.Bits.{Bits}
 use Rattle.x86_values.specs.declared.Bits.TheVariants.{B16, B32, B64}
 use Rattle.x86_values.specs.declared.Instr.{Instr}
@@ -64,13 +65,7 @@ is_pair B64 _ = false
 is_pair _ B64 = false
 is_pair _ _ = true
 
--- ---- codes
-
--- rows that differ in the operand size alone stand one behind another: 16, 32, 64
-unfoldable pub size_number : Bits → ℕ
-size_number B16 = 0
-size_number B32 = 1
-size_number B64 = 2
+-- ---- codes: rows that differ in the operand size alone stand one behind another, 16, 32, 64
 
 -- the code of the branch with an offset of 8 bits; a CALL has none, and its own code stands for it
 unfoldable pub short_code : Action → Bits → ℕ

@@ -9,7 +9,7 @@ use crate::branch_forms::generated_codes::{
 use instruction_parts::row_types::{OpKind, Row, Size};
 use opcode_rows::{ROWS, row_of};
 use operand_info::near_target;
-use x86_values::{Bits, Instr};
+use x86_values::{Bits, Instr, size_number};
 
 /// What a relative branch does.
 #[derive(Clone, Copy)]
@@ -109,29 +109,16 @@ pub fn branch_of(instr: &Instr) -> Option<RelativeBranch>
     branch_in(&row_of(instr.code))
 }
 
-/// The number of a size among the rows of one branch.
-#[tactic(auto, unfolding(crate::specs::BranchForms::Branches::size_number))]
-fn size_number(size: Bits) -> u16
-    ensures value { result ≡ spec.size_number size }
-    ensures small { result < 3 }
-{
-    match size {
-        Bits::B16 => 0,
-        Bits::B32 => 1,
-        Bits::B64 => 2,
-    }
-}
-
 /// Returns the code of the branch with an 8-bit offset. A CALL has none; the result is its own code.
 #[tactic(auto, unfolding(crate::specs::BranchForms::Branches::short_code))]
 pub fn short_code(action: Action, size: Bits) -> u16
     ensures { result ≡ spec.short_code action size }
 {
     match action {
-        Action::Jump => JMP_REL8 + size_number(size),
-        Action::Call => CALL_REL16 + size_number(size),
-        Action::Condition(n) => JO_REL8 + 3 * u16::from(n) + size_number(size),
-        Action::Count(n) => LOOPNE_REL8 + 3 * u16::from(n) + size_number(size),
+        Action::Jump => JMP_REL8 + u16::from(size_number(size)),
+        Action::Call => CALL_REL16 + u16::from(size_number(size)),
+        Action::Condition(n) => JO_REL8 + 3 * u16::from(n) + u16::from(size_number(size)),
+        Action::Count(n) => LOOPNE_REL8 + 3 * u16::from(n) + u16::from(size_number(size)),
     }
 }
 
@@ -141,10 +128,10 @@ pub fn near_code(action: Action, size: Bits) -> u16
     ensures { result ≡ spec.near_code action size }
 {
     match action {
-        Action::Jump => JMP_REL16 + size_number(size),
-        Action::Call => CALL_REL16 + size_number(size),
-        Action::Condition(n) => JO_REL16 + 3 * u16::from(n) + size_number(size),
-        Action::Count(_) => JMP_REL16 + size_number(size),
+        Action::Jump => JMP_REL16 + u16::from(size_number(size)),
+        Action::Call => CALL_REL16 + u16::from(size_number(size)),
+        Action::Condition(n) => JO_REL16 + 3 * u16::from(n) + u16::from(size_number(size)),
+        Action::Count(_) => JMP_REL16 + u16::from(size_number(size)),
     }
 }
 

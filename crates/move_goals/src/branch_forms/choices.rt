@@ -2,7 +2,6 @@
 
 ghost use Rattle.std.specs.Prelude.{◌≡◌, ◌≤◌, ◌++◌, [], ◌∷◌, None, length, map};
 ghost use Rattle.move_goals.specs.BranchForms.Branches.{branch_of};
-ghost use Rattle.x86_values.specs.Wrapping.{width as bits_of};
 ghost use Rattle.move_goals.specs.BranchForms.Choices as spec;
 ghost use Rattle.branch_sizes.specs.declared.plan.Form.TheVariants.{Itself};
 ghost use Rattle.branch_sizes.specs.declared.plan.Reach.TheVariants.{Always};
@@ -15,18 +14,7 @@ use crate::branch_forms::laws_below::laws_below;
 use crate::moved_targets::plain_length;
 use arrayvec::ArrayVec;
 use branch_sizes::{Choice, Form, Reach};
-use x86_values::{Bits, Instr};
-
-/// The number of bits that a size says.
-fn width(size: Bits) -> u8
-    ensures { result ≡ bits_of size }
-{
-    match size {
-        Bits::B16 => 16,
-        Bits::B32 => 32,
-        Bits::B64 => 64,
-    }
-}
+use x86_values::{Bits, Instr, width};
 
 /// What a form with an offset of the operand size reaches.
 #[tactic(auto, unfolding(crate::specs::BranchForms::Choices::near_reach))]

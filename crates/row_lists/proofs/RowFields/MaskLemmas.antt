@@ -15,7 +15,8 @@ use Rattle.instruction_parts.specs.Sizes.{exists_in, operand_size, has_bang}
 use Rattle.row_lists.specs.declared.row_fields.Fields.{Fields}
 use Rattle.row_lists.specs.RowFields.Holds.{holds, stands_in, map_number, byte_of, byte_holds, prefix_of, prefix_holds, place_holds, reg_holds, rm_holds, size_allows, size_holds, w_holds, l_holds, rex_b_holds}
 use Rattle.instruction_parts.specs.Bytes.{bit}
-use Rattle.row_lists.specs.RowFields.FieldNumbers.{plain_size, size_number}
+use Rattle.x86_values.specs.Modes.{size_number}
+use Rattle.row_lists.specs.RowFields.FieldNumbers.{plain_size}
 use Rattle.row_lists.specs.RowFields.Masks.{nth, allows, meets, two, three, four, reg_mask, rm_mask, marked_size, size_mask, masks, values}
 
 -- equal parts make equal conjunctions

@@ -10,7 +10,8 @@ use Rattle.x86_values.specs.declared.Bits.{Bits}
 use Rattle.x86_values.specs.declared.Bits.TheVariants.{B16, B32, B64}
 use Rattle.instruction_parts.specs.Bytes.{bit}
 use Rattle.instruction_parts.specs.Sizes.{has_bang, has_caret}
-use Rattle.row_lists.specs.RowFields.FieldNumbers.{plain_size, size_number}
+use Rattle.x86_values.specs.Modes.{size_number}
+use Rattle.row_lists.specs.RowFields.FieldNumbers.{plain_size}
 use Rattle.row_lists.specs.RowFields.Holds.{byte_of, byte_holds, prefix_of, prefix_holds, place_holds, size_allows, w_holds, l_holds, rex_b_holds}
 
 -- the values that a field may have

@@ -7,7 +7,7 @@ ghost use Rattle.opcode_rows.specs.Sweep as spec;
 ghost use Rattle.sweep.specs.SweepText.Sweeping.{TakesSome};
 
 use decoder::reading_laws::wrapped_addresses_read_alike;
-use decoder::{DecodeError, UNREAD, decode_in, decode_onto};
+use decoder::{DecodeError, UNREAD, decode_onto};
 use x86_values::{Bits, Decoded, wrap};
 
 /// Decodes the bytes at an offset of code whose first byte has the address `base`. Addresses wrap in the mode.
@@ -19,9 +19,7 @@ pub fn read_at(bits: Bits, base: u64, offset: usize, bytes: &[u8]) -> Result<Dec
     ensures well { IfOk result (λ d. IsTrue (is_well_formed d.instr)) }
     ensures takes { 0 < length bytes.now → TakesSome (reading_of result) (length bytes.now) }
 {
-    wrapped_addresses_read_alike();
-    let ip = wrap(bits, u128::from(base) + offset as u128);
-    decode_in(bits, ip, bytes)
+    decoder::read_at(bits, base, offset, bytes)
 }
 
 /// Decodes like [`read_at`], but writes the result to `out`, so that no instruction is copied.
