@@ -1,6 +1,6 @@
 -- How a stream ends that meets no fault.
 use Rattle.std.proofs.Common.{◌≡◌, inl, inr, ℕ, ◌+◌, ◌-◌, ◌<◌, ◌≤◌, List, [], ◌∷◌, ◌++◌, length, length-append, take, drop, Option, Some, None, Result, Ok, Err, refl, sym, ap, ◌∙◌, subst, arith, append-nil, take_all}
-use Rattle.std.specs.Prelude.{All}
+use Rattle.std.specs.Prelude.{All, IfOk}
 use Rattle.std.proofs.lemmas.List.{length-drop, take-append-le}
 use Rattle.std.proofs.lemmas.Bool.{cases_lt}
 use Rattle.std.proofs.Math.Seq.{take-append-add}
@@ -14,11 +14,14 @@ use Rattle.sweep.specs.SweepText.Lines.{stop_of, LineGoesOn}
 use Rattle.sweep.specs.SweepText.Facts.{OneSweepFacts}
 use Rattle.sweep.specs.RunParts.Facts.{ReadFacts}
 use Rattle.sweep.specs.RunParts.Reads.{code_limit}
+use Rattle.sweep.specs.declared.error.ListError.{ListError}
 use Rattle.sweep.specs.declared.error.StreamError.{StreamError}
 use Rattle.sweep.specs.declared.error.StreamError.TheVariants.{BadCode, ReadFault, WriteFault, TooLarge}
 use Rattle.sweep.specs.Steps.{IsReady}
 use Rattle.sweep.specs.Streams.{AreHandled, Sees, WritesLinesBefore, StreamsAs}
-use Rattle.sweep.specs.Ends.{end_of, CompletesStream, CompletesListing}
+use Rattle.sweep.specs.declared.stream.BadItem.{BadItem}
+use Rattle.sweep.specs.declared.stream.Streamed.{Streamed}
+use Rattle.sweep.specs.Ends.{end_of, of_streamed, CompletesStream, CompletesListing}
 use Rattle.text_parts.specs.declared.style.Style.{Style}
 use Rattle.sweep.specs.declared.sweep_text.lines.Lines.TheVariants.{Listing}
 use Rattle.sweep.proofs.Longer.{all_ready, sweeps_longer}
@@ -200,6 +203,21 @@ pub no_bad_code : (bits : Bits) (base : ℕ) (syntax : Style) (left left' held h
     (error : DecodeError) → StreamsAs bits base (Listing syntax) left left' held held' source_rose out_rose (Err (BadCode offset error)) → ⊥
 no_bad_code bits base syntax left left' held held' source_rose out_rose offset error h =
     let stops : None ≡ Some error = h.1.1.1.stops in absurd cc
+
+goes_on : (bits : Bits) (base : ℕ) (syntax : Style) (left left' held held' : Option (List ℕ)) (source_rose out_rose : Type 0) (count : ℕ)
+    (stop : Option BadItem) → StreamsAs bits base (Listing syntax) left left' held held' source_rose out_rose
+    (of_streamed (Ok (record { count = count; stop = stop }))) → stop ≡ None
+goes_on bits base syntax left left' held held' source_rose out_rose count None h = refl
+goes_on bits base syntax left left' held held' source_rose out_rose count (Some bad) h =
+    absurd (no_bad_code bits base syntax left left' held held' source_rose out_rose bad.offset bad.error h)
+
+-- so a listing ends at no item
+pub listing_goes_on : (bits : Bits) (base : ℕ) (syntax : Style) (left left' held held' : Option (List ℕ)) (source_rose out_rose : Type 0)
+    (streamed : Result Streamed ListError) → StreamsAs bits base (Listing syntax) left left' held held' source_rose out_rose (of_streamed streamed) →
+    IfOk streamed (λ s. s.stop ≡ None)
+listing_goes_on bits base syntax left left' held held' source_rose out_rose (Ok streamed) h =
+    goes_on bits base syntax left left' held held' source_rose out_rose streamed.count streamed.stop h
+listing_goes_on bits base syntax left left' held held' source_rose out_rose (Err error) h = tt
 
 module _ (reads : ReadFacts) where
   -- **a listing that meets no fault comes to the end of its input**

@@ -9,6 +9,7 @@ use Rattle.sweep.specs.declared.error.StreamError.{StreamError}
 use Rattle.sweep.specs.declared.error.StreamError.TheVariants.{BadCode, ReadFault, WriteFault, TooLarge}
 use Rattle.sweep.specs.declared.error.ListError.{ListError}
 use Rattle.sweep.specs.declared.error.ListError.TheVariants.{ReadFault as ListReadFault, WriteFault as ListWriteFault, TooLarge as ListTooLarge}
+use Rattle.sweep.specs.declared.stream.Streamed.{Streamed}
 use Rattle.sweep.specs.Streams.{AreHandled}
 
 -- a way through items ends at the first item behind which the command does not go on, else as it ends behind all
@@ -22,6 +23,13 @@ of_listing (Ok count) = Ok count
 of_listing (Err ListReadFault) = Err ReadFault
 of_listing (Err ListWriteFault) = Err WriteFault
 of_listing (Err (ListTooLarge limit)) = Err (TooLarge limit)
+
+-- the answer of a stream by how far it went: bad code where its command ended at an item
+abbrev pub of_streamed : Result Streamed ListError → Result ℕ StreamError
+of_streamed (Ok streamed) = elim streamed.stop [ None ↦ Ok streamed.count | Some bad ↦ Err (BadCode bad.offset bad.error) ]
+of_streamed (Err ListReadFault) = Err ReadFault
+of_streamed (Err ListWriteFault) = Err WriteFault
+of_streamed (Err (ListTooLarge limit)) = Err (TooLarge limit)
 
 -- no port failed
 abbrev pub IsNoFault : Result ℕ StreamError → Type 0

@@ -1,12 +1,12 @@
 //! Going through the code of a source, a window at a time.
 
-ghost use Rattle.std.specs.Prelude.{◌≡◌, IsTrue};
+ghost use Rattle.std.specs.Prelude.{◌≡◌, IsTrue, IfOk, None};
 ghost use Rattle.byte_ports.specs.Ports.{Rose};
 ghost use Rattle.prefixes.specs.Answer.{is_mode, mode_of};
 ghost use Rattle.sweep.specs.RunParts.Reads.{code_limit, Takes, EndsAtFault};
 ghost use Rattle.sweep.specs.Calls.{IsCalled};
 ghost use Rattle.sweep.specs.Streams.{StreamsAs};
-ghost use Rattle.sweep.specs.Ends.{of_listing, CompletesStream, CompletesListing};
+ghost use Rattle.sweep.specs.Ends.{of_listing, of_streamed, CompletesStream, CompletesListing};
 ghost use Rattle.sweep.specs.declared.sweep_text.lines.Lines.TheVariants as lines;
 ghost use Rattle.sweep.specs.declared.error.ListError.TheVariants as lists;
 ghost use Rattle.sweep.specs.declared.error.StreamError.TheVariants as why;
@@ -19,11 +19,30 @@ use crate::sweep_text::laws::sweeps_agree;
 use crate::sweep_text::{Lines, Style};
 use crate::window::{WINDOW_LEN, fill, keep};
 use byte_ports::{Failed, Sink, Source};
+use decoder::DecodeError;
 use prefixes::mode_of;
 use x86_values::Bits;
 
 /// The most bytes of a source that are handled.
 const LIMIT: usize = CODE_LIMIT as usize;
+
+/// The item for which a command has no line.
+#[derive(Clone, Copy)]
+pub struct BadItem {
+    /// Its offset in the code.
+    pub offset: u64,
+    /// Why no instruction is read there.
+    pub error: DecodeError,
+}
+
+/// How far a stream went without a fault.
+#[derive(Clone, Copy)]
+pub struct Streamed {
+    /// The number of items whose lines were written.
+    pub count: u64,
+    /// The item at which the command ended, if not at the end of the input.
+    pub stop: Option<BadItem>,
+}
 
 /// Goes through the code of a source, a window at a time.
 #[tactic(auto, unfolding(crate::specs::RunParts::Reads::code_limit))]
@@ -33,11 +52,11 @@ fn stream_all<S: Source, K: Sink>(
     lines: Lines,
     source: &mut S,
     sink: &mut K,
-) -> Result<u64, StreamError>
+) -> Result<Streamed, ListError>
     ensures answer { StreamsAs bits base lines (S.left source.old) (S.left source.new) (K.held sink.old) (K.held sink.new)
-        (Rose (S.faults source.old) (S.faults source.new)) (Rose (K.faults sink.old) (K.faults sink.new)) result }
-    ensures last { result ≡ Err why.ReadFault → EndsAtFault S.pull_gives S.left source.new }
-    ensures calls { IsCalled S.left S.pull_gives K.held K.put_gives bits base lines source.old source.new sink.old sink.new result }
+        (Rose (S.faults source.old) (S.faults source.new)) (Rose (K.faults sink.old) (K.faults sink.new)) (of_streamed result) }
+    ensures last { result ≡ Err lists.ReadFault → EndsAtFault S.pull_gives S.left source.new }
+    ensures calls { IsCalled S.left S.pull_gives K.held K.put_gives bits base lines source.old source.new sink.old sink.new (of_streamed result) }
 {
     pieces_join();
     let mut window = [0; WINDOW_LEN];
@@ -48,29 +67,58 @@ fn stream_all<S: Source, K: Sink>(
         let room = (WINDOW_LEN - len).min(LIMIT + 1 - (at + len));
         let n = match fill(source, &mut window, len, room) {
             Ok(n) => n,
-            Err(Failed) => return Err(StreamError::ReadFault),
+            Err(Failed) => return Err(ListError::ReadFault),
         };
         let end = (len + n).min(LIMIT - at);
         let handled = match write_ready(bits, base, lines, at, &window[..end], n == 0, sink) {
             Ok(handled) => handled,
-            Err(Failed) => return Err(StreamError::WriteFault),
+            Err(Failed) => return Err(ListError::WriteFault),
         };
         count += handled.count;
         if let Some(error) = handled.stop {
             let offset = (at + handled.used) as u64;
-            return Err(StreamError::BadCode { offset, error });
+            return Ok(Streamed {
+                count,
+                stop: Some(BadItem { offset, error }),
+            });
         }
         if n == 0 {
-            return Ok(count);
+            return Ok(Streamed { count, stop: None });
         }
         if end < len + n {
-            return Err(StreamError::TooLarge {
+            return Err(ListError::TooLarge {
                 limit: u64::from(CODE_LIMIT),
             });
         }
         keep(&mut window, handled.used, end);
         at += handled.used;
         len = end - handled.used;
+    }
+}
+
+/// Returns the answer of a stream whose command may end at an item.
+fn stream_answer(streamed: Result<Streamed, ListError>) -> Result<u64, StreamError>
+    ensures { result ≡ of_streamed streamed }
+{
+    match streamed {
+        Ok(Streamed { count, stop: None }) => Ok(count),
+        Ok(Streamed {
+            stop: Some(BadItem { offset, error }),
+            ..
+        }) => Err(StreamError::BadCode { offset, error }),
+        Err(ListError::ReadFault) => Err(StreamError::ReadFault),
+        Err(ListError::WriteFault) => Err(StreamError::WriteFault),
+        Err(ListError::TooLarge { limit }) => Err(StreamError::TooLarge { limit }),
+    }
+}
+
+/// Returns the answer of a listing, which ends at no item.
+fn listing_answer(streamed: Result<Streamed, ListError>) -> Result<u64, ListError>
+    ensures { IfOk streamed (λ s. s.stop ≡ None) → of_listing result ≡ of_streamed streamed }
+{
+    match streamed {
+        Ok(Streamed { count, .. }) => Ok(count),
+        Err(error) => Err(error),
     }
 }
 
@@ -109,7 +157,7 @@ pub fn stream_lines<S: Source, K: Sink>(
 {
     told_bytes_are_read();
     sweeps_agree();
-    stream_all(bits, base, lines, source, sink)
+    stream_answer(stream_all(bits, base, lines, source, sink))
 }
 
 /// Writes the listing of the code of a source in a style, like [`stream_lines`]. It continues after every item, so `BadCode` does not occur.
@@ -133,13 +181,7 @@ pub fn list_stream<const BITS: u32, S: Source, K: Sink>(
 {
     told_bytes_are_read();
     let lines = Lines::Listing { syntax };
-    match stream_lines(mode_of::<BITS>(), base, lines, source, sink) {
-        Ok(count) => Ok(count),
-        Err(StreamError::ReadFault) => Err(ListError::ReadFault),
-        Err(StreamError::WriteFault) => Err(ListError::WriteFault),
-        Err(StreamError::TooLarge { limit }) => Err(ListError::TooLarge { limit }),
-        Err(StreamError::BadCode { .. }) => unreachable!(),
-    }
+    listing_answer(stream_all(mode_of::<BITS>(), base, lines, source, sink))
 }
 
 /// Writes the bytes of the instructions of a source in the mode `to`, with the first byte at the address `new_base`, like [`stream_lines`]. `BITS` is
