@@ -49,10 +49,7 @@ pub(crate) fn read_found<const BITS: u32, L: Ledger>(
     let bits = mode_of::<BITS>();
     match find_front::<BITS, L>(state, byte_behind(state, bytes), steps) {
         None => None,
-        Some(code) => match read_by_code(bits, ip, state, code, bytes, out, steps) {
-            Some(()) => Some(()),
-            None => None,
-        },
+        Some(code) => read_by_code(bits, ip, state, code, bytes, out, steps),
     }
 }
 
@@ -121,10 +118,7 @@ fn read_bare<L: Ledger>(
     let row = row(code, steps);
     let size = state_size(bits, &row, state);
     let immediates = immediates_at(size, known);
-    match read_fitting_into(bits, ip, state, code, &row, size, immediates, bytes, out) {
-        Some(()) => Some(()),
-        None => None,
-    }
+    read_fitting_into(bits, ip, state, code, &row, size, immediates, bytes, out)
 }
 
 /// Reads by a row, and tests all its conditions.

@@ -1,4 +1,5 @@
-use Rattle.std.proofs.Common.{◌≡◌, ◌+◌, ℕ, true, refl, ap, sym, ◌∙◌, subst, drop, Option}
+use Rattle.std.proofs.Common.{◌≡◌, ◌+◌, ℕ, true, refl, ap, sym, ◌∙◌, subst, drop}
+use Rattle.std.specs.Prelude.{Option, None, Some, IfSome}
 use Rattle.instruction_parts.specs.declared.row_types.Row.{Row}
 use Rattle.row_fit.specs.Fits.{immediates_bytes}
 use Rattle.row_lists.specs.RowFields.Holds.{holds}
@@ -38,12 +39,17 @@ read_fitting_into-requires g c =
       front = c.requires.front;
     }
 
-pub returns-in-Some-clause-some : goal.returns-in-Some-clause-some
-returns-in-Some-clause-some g c = λ row there.
-    subst (λ (r : Row). RowReads c.args.bits c.args.ip c.args.code r c.args.bytes.now c.read_fitting_into.new.out)
-    (same_some c.row-row.result row (sym c.row-row.ensures.row ∙ there)) c.in-Some.ensures.some
+-- what holds of a value, held for another row
+of_value : {A B : Type 0} (o : Option (Unit {0})) → IfSome o (λ _. A) → (A → B) → IfSome o (λ _. B)
+of_value None a f = tt
+of_value (Some u) a f = f a
 
-pub returns-in-None-clause-none : goal.returns-in-None-clause-none
-returns-in-None-clause-none g c = λ none row there.
+pub returns-clause-some : goal.returns-clause-some
+returns-clause-some g c = of_value c.read_fitting_into.result c.read_fitting_into.ensures.some (λ some row there.
+    subst (λ (r : Row). RowReads c.args.bits c.args.ip c.args.code r c.args.bytes.now c.read_fitting_into.new.out)
+    (same_some c.row-row.result row (sym c.row-row.ensures.row ∙ there)) some)
+
+pub returns-clause-none : goal.returns-clause-none
+returns-clause-none g c = λ none row there.
     subst (λ (r : Row). RowIsLate c.args.bits r c.args.bytes.now) (same_some c.row-row.result row (sym c.row-row.ensures.row ∙ there))
-    (late_by_either c.args.bits c.args.ip c.args.code c.row-row.result c.args.bytes.now (c.in-None.ensures.none refl))
+    (late_by_either c.args.bits c.args.ip c.args.code c.row-row.result c.args.bytes.now (c.read_fitting_into.ensures.none none))

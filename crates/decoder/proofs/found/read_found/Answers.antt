@@ -1,4 +1,5 @@
 use Rattle.std.proofs.Common.{◌≡◌, ◌+◌, true, refl, ap, sym, ◌∙◌, subst, arith, slice_get}
+use Rattle.std.specs.Prelude.{Option, None, Some, IsNone, IfSome, MatchOption}
 use Rattle.std.proofs.lemmas.Option.{slice_get_within}
 use Rattle.x86_values.specs.declared.Bits.{Bits}
 use Rattle.prefixes.specs.Answer.{mode_of}
@@ -41,25 +42,18 @@ returns-in-None-clause-reading g c =
     ap (fields_of state) c.byte_behind.ensures in
     no_row_spells bits c.args.ip bytes state c.requires.front (subst (λ (x : Fields). HoldsNowhere bits table x) are c.in-None.ensures.row)
 
-pub returns-in-Some-read_by_code-clause-reading : goal.returns-in-Some-read_by_code-clause-reading
-returns-in-Some-read_by_code-clause-reading g c =
-    let bits = mode_of g.row.BITS in
-    let bytes = c.args.bytes.now in
-    let code = c.in-Some.code in
-    let only = c.in-Some.ensures.row in
-    reads table bits c.args.ip code only.row bytes c.read_by_code.new.out only.there
-    (subst (λ (b : Bits). RowReads b c.args.ip code only.row bytes c.read_by_code.new.out) c.mode_of-bits.ensures
-    (c.in-Some-read_by_code.ensures.some only.row only.there))
-    c.in-Some-read_by_code.ensures.len.1
+-- what a value says, and what none says
+by_option : {A B : Type 0} (o : Option (Unit {0})) → (IsNone o → A) → IfSome o (λ _. B) → MatchOption o A (λ _. B)
+by_option None none some = none refl
+by_option (Some u) none some = some
 
-pub returns-in-Some-read_by_code-clause-form : goal.returns-in-Some-read_by_code-clause-form
-returns-in-Some-read_by_code-clause-form g c =
-    let only = c.in-Some.ensures.row in
-    read_is_well_formed c.mode_of-bits.result c.args.ip _ only.row c.args.bytes.now c.read_by_code.new.out only.there
-    (sound-row _ _ only.there) (c.in-Some-read_by_code.ensures.some only.row only.there)
+-- two facts of a value give a third
+both : {A B C : Type 0} (o : Option (Unit {0})) → IfSome o (λ _. A) → IfSome o (λ _. B) → (A → B → C) → IfSome o (λ _. C)
+both None a b f = tt
+both (Some u) a b f = f a b
 
-pub returns-in-None-read_by_code-clause-reading : goal.returns-in-None-read_by_code-clause-reading
-returns-in-None-read_by_code-clause-reading g c =
+pub returns-in-Some-clause-reading : goal.returns-in-Some-clause-reading
+returns-in-Some-clause-reading g c =
     let bits = mode_of g.row.BITS in
     let bytes = c.args.bytes.now in
     let state = c.args.state.now in
@@ -67,6 +61,18 @@ returns-in-None-read_by_code-clause-reading g c =
     let only = c.in-Some.ensures.row in
     let are : (fields_of state c.byte_behind.result) ≡ fields_of state (slice_get bytes (state.used + 1)) =
     ap (fields_of state) c.byte_behind.ensures in
-    one_row_spells bits c.args.ip bytes state code.0 only.row c.requires.front
+    by_option c.read_by_code.result
+    (λ none. one_row_spells bits c.args.ip bytes state code.0 only.row c.requires.front
     (subst (λ (x : Fields). IsOnlyRow bits table x code.0) are c.in-Some.ensures.row) only.there
-    (subst (λ (b : Bits). RowIsLate b only.row bytes) c.mode_of-bits.ensures (c.in-None-read_by_code.ensures.none refl only.row only.there))
+    (subst (λ (b : Bits). RowIsLate b only.row bytes) c.mode_of-bits.ensures (c.read_by_code.ensures.none none only.row only.there)))
+    (both c.read_by_code.result c.read_by_code.ensures.some c.read_by_code.ensures.len (λ some len.
+        reads table bits c.args.ip code only.row bytes c.read_by_code.new.out only.there
+        (subst (λ (b : Bits). RowReads b c.args.ip code only.row bytes c.read_by_code.new.out) c.mode_of-bits.ensures (some only.row only.there))
+        len.1))
+
+pub returns-in-Some-clause-form : goal.returns-in-Some-clause-form
+returns-in-Some-clause-form g c =
+    let only = c.in-Some.ensures.row in
+    both c.read_by_code.result c.read_by_code.ensures.some c.read_by_code.ensures.len (λ some len.
+        read_is_well_formed c.mode_of-bits.result c.args.ip _ only.row c.args.bytes.now c.read_by_code.new.out only.there
+        (sound-row _ _ only.there) (some only.row only.there))
