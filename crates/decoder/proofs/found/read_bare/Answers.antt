@@ -40,12 +40,12 @@ read_fitting_into-requires g c =
     }
 
 -- what holds of a value, held for another row
-of_value : {A B : Type 0} (o : Option (Unit {0})) → IfSome o (λ _. A) → (A → B) → IfSome o (λ _. B)
-of_value None a f = tt
-of_value (Some u) a f = f a
+of_value : (A B : Type 0) (o : Option (Unit {0})) → IfSome o (λ _. A) → (A → B) → IfSome o (λ _. B)
+of_value A B None a f = tt
+of_value A B (Some u) a f = f a
 
 pub returns-clause-some : goal.returns-clause-some
-returns-clause-some g c = of_value c.read_fitting_into.result c.read_fitting_into.ensures.some (λ some row there.
+returns-clause-some g c = of_value _ _ c.read_fitting_into.result c.read_fitting_into.ensures.some (λ some row there.
     subst (λ (r : Row). RowReads c.args.bits c.args.ip c.args.code r c.args.bytes.now c.read_fitting_into.new.out)
     (same_some c.row-row.result row (sym c.row-row.ensures.row ∙ there)) some)
 

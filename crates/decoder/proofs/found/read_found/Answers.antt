@@ -43,14 +43,14 @@ returns-in-None-clause-reading g c =
     no_row_spells bits c.args.ip bytes state c.requires.front (subst (λ (x : Fields). HoldsNowhere bits table x) are c.in-None.ensures.row)
 
 -- what a value says, and what none says
-by_option : {A B : Type 0} (o : Option (Unit {0})) → (IsNone o → A) → IfSome o (λ _. B) → MatchOption o A (λ _. B)
-by_option None none some = none refl
-by_option (Some u) none some = some
+by_option : (A B : Type 0) (o : Option (Unit {0})) → (IsNone o → A) → IfSome o (λ _. B) → MatchOption o A (λ _. B)
+by_option A B None none some = none refl
+by_option A B (Some u) none some = some
 
 -- two facts of a value give a third
-both : {A B C : Type 0} (o : Option (Unit {0})) → IfSome o (λ _. A) → IfSome o (λ _. B) → (A → B → C) → IfSome o (λ _. C)
-both None a b f = tt
-both (Some u) a b f = f a b
+both : (A B C : Type 0) (o : Option (Unit {0})) → IfSome o (λ _. A) → IfSome o (λ _. B) → (A → B → C) → IfSome o (λ _. C)
+both A B C None a b f = tt
+both A B C (Some u) a b f = f a b
 
 pub returns-in-Some-clause-reading : goal.returns-in-Some-clause-reading
 returns-in-Some-clause-reading g c =
@@ -61,11 +61,11 @@ returns-in-Some-clause-reading g c =
     let only = c.in-Some.ensures.row in
     let are : (fields_of state c.byte_behind.result) ≡ fields_of state (slice_get bytes (state.used + 1)) =
     ap (fields_of state) c.byte_behind.ensures in
-    by_option c.read_by_code.result
+    by_option _ _ c.read_by_code.result
     (λ none. one_row_spells bits c.args.ip bytes state code.0 only.row c.requires.front
     (subst (λ (x : Fields). IsOnlyRow bits table x code.0) are c.in-Some.ensures.row) only.there
     (subst (λ (b : Bits). RowIsLate b only.row bytes) c.mode_of-bits.ensures (c.read_by_code.ensures.none none only.row only.there)))
-    (both c.read_by_code.result c.read_by_code.ensures.some c.read_by_code.ensures.len (λ some len.
+    (both _ _ _ c.read_by_code.result c.read_by_code.ensures.some c.read_by_code.ensures.len (λ some len.
         reads table bits c.args.ip code only.row bytes c.read_by_code.new.out only.there
         (subst (λ (b : Bits). RowReads b c.args.ip code only.row bytes c.read_by_code.new.out) c.mode_of-bits.ensures (some only.row only.there))
         len.1))
@@ -73,6 +73,6 @@ returns-in-Some-clause-reading g c =
 pub returns-in-Some-clause-form : goal.returns-in-Some-clause-form
 returns-in-Some-clause-form g c =
     let only = c.in-Some.ensures.row in
-    both c.read_by_code.result c.read_by_code.ensures.some c.read_by_code.ensures.len (λ some len.
+    both _ _ _ c.read_by_code.result c.read_by_code.ensures.some c.read_by_code.ensures.len (λ some len.
         read_is_well_formed c.mode_of-bits.result c.args.ip _ only.row c.args.bytes.now c.read_by_code.new.out only.there
         (sound-row _ _ only.there) (some only.row only.there))
