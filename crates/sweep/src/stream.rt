@@ -102,10 +102,12 @@ fn stream_answer(streamed: Result<Streamed, ListError>) -> Result<u64, StreamErr
 {
     match streamed {
         Ok(Streamed { count, stop: None }) => Ok(count),
-        Ok(Streamed {
-            stop: Some(BadItem { offset, error }),
-            ..
-        }) => Err(StreamError::BadCode { offset, error }),
+        Ok(
+            Streamed {
+                stop: Some(BadItem { offset, error }),
+                ..
+            },
+        ) => Err(StreamError::BadCode { offset, error }),
         Err(ListError::ReadFault) => Err(StreamError::ReadFault),
         Err(ListError::WriteFault) => Err(StreamError::WriteFault),
         Err(ListError::TooLarge { limit }) => Err(StreamError::TooLarge { limit }),

@@ -66,13 +66,13 @@ returns-in-Some-clause-reading g c =
     (subst (λ (x : Fields). IsOnlyRow bits table x code.0) are c.in-Some.ensures.row) only.there
     (subst (λ (b : Bits). RowIsLate b only.row bytes) c.mode_of-bits.ensures (c.read_by_code.ensures.none none only.row only.there)))
     (both _ _ _ c.read_by_code.result c.read_by_code.ensures.some c.read_by_code.ensures.len (λ some len.
-        reads table bits c.args.ip code only.row bytes c.read_by_code.new.out only.there
-        (subst (λ (b : Bits). RowReads b c.args.ip code only.row bytes c.read_by_code.new.out) c.mode_of-bits.ensures (some only.row only.there))
-        len.1))
+    reads table bits c.args.ip code only.row bytes c.read_by_code.new.out only.there
+    (subst (λ (b : Bits). RowReads b c.args.ip code only.row bytes c.read_by_code.new.out) c.mode_of-bits.ensures (some only.row only.there))
+    len.1))
 
 pub returns-in-Some-clause-form : goal.returns-in-Some-clause-form
 returns-in-Some-clause-form g c =
     let only = c.in-Some.ensures.row in
     both _ _ _ c.read_by_code.result c.read_by_code.ensures.some c.read_by_code.ensures.len (λ some len.
-        read_is_well_formed c.mode_of-bits.result c.args.ip _ only.row c.args.bytes.now c.read_by_code.new.out only.there
-        (sound-row _ _ only.there) (some only.row only.there))
+    read_is_well_formed c.mode_of-bits.result c.args.ip _ only.row c.args.bytes.now c.read_by_code.new.out only.there
+    (sound-row _ _ only.there) (some only.row only.there))
