@@ -14,10 +14,11 @@ use Rattle.branch_sizes.specs.declared.move_layout.layout.Fragment.{Fragment}
 use Rattle.branch_sizes.specs.declared.move_layout.layout.BlockEnd.{BlockEnd}
 use Rattle.branch_sizes.specs.declared.move_layout.layout.Layout.{Layout}
 use Rattle.branch_sizes.specs.MoveLayout.Laid.{IsLaid, IsLaidLeast, goal_address, fragment_at, slots_of, all_slots, images_end, no_fragment, no_end}
-use Rattle.block_encoder.specs.declared.error.MoveError.{MoveError}
-use Rattle.block_encoder.specs.declared.error.MoveError.TheVariants.{Memory, TooMany, OldOrder, Wraps, TooFar}
+use Rattle.block_encoder.specs.declared.error.PlanError.{PlanError}
+use Rattle.block_encoder.specs.declared.error.PlanError.TheVariants.{Memory, Wraps, TooFar}
 use Rattle.block_encoder.specs.Moved.{MovedLists, IsFragmentReached, IsReached, IsFirstUnreached}
 use Rattle.block_encoder.specs.ByPlan.{IsMovedBy, IsPlanAnswer}
+use Rattle.block_encoder.specs.Planned.{move_error_of}
 use Rattle.block_encoder.specs.Written.{IsItemWritten, IsFragmentOf, gap_behind, first_end_past}
 use Rattle.block_encoder.specs.Bytes.{slot_bytes}
 use Rattle.block_encoder.specs.LawsBelow.{MovedLawsBelow}
@@ -88,11 +89,9 @@ module _ (laws : MovedLawsBelow) where
 
     -- an item that is not written refuses the blocks
     pub item_refuses : (k : ℕ) → ItemFacts items p laid b i k
-        → (fragment : Fragment) → fragment ≡ get_or laid.fragments.items k fragment → (old new : List ℕ) (why : MoveError)
-        → IsItemWritten bits (instr_at items k).instr fragment k old new (Err why) → IsPlanAnswer bits items p (Err why)
+        → (fragment : Fragment) → fragment ≡ get_or laid.fragments.items k fragment → (old new : List ℕ) (why : PlanError)
+        → IsItemWritten bits (instr_at items k).instr fragment k old new (Err why) → IsPlanAnswer bits items p (Err (move_error_of why))
     item_refuses k f fragment is old new Memory h = tt
-    item_refuses k f fragment is old new (TooMany n) h = absurd h
-    item_refuses k f fragment is old new (OldOrder n) h = absurd h
     item_refuses k f fragment is old new (Wraps n) h = absurd h
     item_refuses k f fragment is old new (TooFar j t) h =
         let s : fragment ≡ fragment_at p ll.0 k = f.fragment_is fragment is ∙ ll.2.fragments k f.in_plan in

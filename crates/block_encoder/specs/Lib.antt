@@ -1,5 +1,6 @@
 pub mod Bytes
 pub mod Moved
+pub mod Planned
 pub mod Read
 pub mod Written
 pub mod Aims

@@ -10,8 +10,8 @@ use Rattle.branch_sizes.specs.declared.move_layout.layout.Fragment.{Fragment}
 use Rattle.branch_sizes.specs.declared.move_layout.layout.BlockEnd.{BlockEnd}
 use Rattle.branch_sizes.specs.MoveLayout.Laid.{next_eighth, no_end}
 use Rattle.move_goals.specs.Items.{first_passing}
-use Rattle.block_encoder.specs.declared.error.MoveError.{MoveError}
-use Rattle.block_encoder.specs.declared.error.MoveError.TheVariants.{Memory, TooFar}
+use Rattle.block_encoder.specs.declared.error.PlanError.{PlanError}
+use Rattle.block_encoder.specs.declared.error.PlanError.TheVariants.{Memory, TooFar}
 use Rattle.block_encoder.specs.Bytes.{fragment_bytes}
 use Rattle.block_encoder.specs.Moved.{IsFragmentReached}
 
@@ -43,7 +43,7 @@ pub record IsFragmentOf (b : Branch) (fragment : Fragment) : Type 0 where
   pub goal : IsGoalAddress b.goal fragment.goal
 
 -- item k is written, or does not reach its goal, which is told
-abbrev pub IsItemWritten : Bits → Instr → Fragment → ℕ → List ℕ → List ℕ → Result Unit MoveError → Type 0
+abbrev pub IsItemWritten : Bits → Instr → Fragment → ℕ → List ℕ → List ℕ → Result Unit PlanError → Type 0
 IsItemWritten bits i fragment k old new (Ok done) = (fragment.goal < 2 ^ 64) × IsFragmentWritten bits i fragment old new
 IsItemWritten bits i fragment k old new (Err (TooFar at target)) = (at ≡ k) × ((target ≡ fragment.goal) × (IsFragmentReached bits i fragment → ⊥))
 IsItemWritten bits i fragment k old new (Err Memory) = Unit {0}

@@ -5,12 +5,12 @@ ghost use Rattle.move_goals.specs.Items as old;
 ghost use Rattle.block_encoder.specs.Going.{GoToGoals};
 ghost use Rattle.block_encoder.specs.Moved.{IsAnswer};
 
-use crate::by_plan::move_with_ready;
+use crate::by_plan::as_moving;
 use crate::error::MoveError;
-use crate::laws_below::laws_below;
 use crate::moved::{Moved, MovedBlocks};
+use crate::ordered::move_ordered_blocks;
 use branch_sizes::{BlockSpan, MOST_ITEMS};
-use move_goals::{Placed, first_disorder, first_old_pass, plan_with_ready, ready_bytes};
+use move_goals::{Placed, first_disorder};
 use std::alloc::Global;
 use x86_values::Bits;
 
@@ -41,7 +41,6 @@ pub fn move_blocks(
     ensures answer { IsAnswer bits items.now spans.now result }
     ensures goals { GoToGoals bits items.now spans.now result }
 {
-    laws_below();
     if items.len() > MOST_ITEMS {
         return Err(MoveError::TooMany {
             count: items.len() as u64,
@@ -50,12 +49,7 @@ pub fn move_blocks(
     if let Some(at) = first_disorder(items, spans) {
         return Err(MoveError::OldOrder { at: at as u64 });
     }
-    if let Some(end) = first_old_pass(bits, items, spans) {
-        return Err(MoveError::Wraps { end });
-    }
-    let ready = ready_bytes(alloc, bits, items)?;
-    let plan = plan_with_ready(alloc, bits, items, spans, &ready)?;
-    move_with_ready(alloc, bits, items, &plan, &ready)
+    as_moving(move_ordered_blocks(alloc, bits, items, spans))
 }
 
 /// Moves one block of code to a new address. The rules and errors are those of [`move_blocks`].

@@ -3,9 +3,10 @@
 ghost use Rattle.std.specs.Prelude.{◌≡◌, length};
 ghost use Rattle.move_goals.specs.Ready.{AreReady};
 ghost use Rattle.block_encoder.specs.ByPlan.{IsPlanAnswer};
+ghost use Rattle.block_encoder.specs.Planned as planned;
 ghost use Rattle.block_encoder.specs.Written.{first_end_past};
 
-use crate::error::MoveError;
+use crate::error::{MoveError, PlanError};
 use crate::laws_below::laws_below;
 use crate::moved::MovedBlocks;
 use crate::write::write_blocks;
@@ -29,12 +30,35 @@ fn first_new_pass(bits: Bits, ends: &[BlockEnd]) -> Option<u128>
     None
 }
 
+/// Returns an answer by a plan as one of [`move_blocks`](crate::move_blocks).
+pub(crate) fn as_moving(answer: Result<MovedBlocks, PlanError>) -> Result<MovedBlocks, MoveError>
+    ensures { result ≡ planned.as_moving answer }
+{
+    match answer {
+        Ok(blocks) => Ok(blocks),
+        Err(why) => Err(MoveError::from(why)),
+    }
+}
+
 /// Moves the items of a plan, which gives the forms and the goal of each item, to their places in the least layout.
 ///
 /// The plan alone decides where each item goes; old addresses do not matter.
 ///
 /// Errors: `Wraps`: a new end lies past the address space of the mode; the first such end is reported. `TooFar`: an item cannot reach its goal; the
-/// first such item is reported. `Memory` can replace either. `TooMany` and `OldOrder` do not occur.
+/// first such item is reported. `Memory` can replace either.
+pub fn move_planned(
+    alloc: Global,
+    bits: Bits,
+    items: &[Placed],
+    plan: &Plan,
+) -> Result<MovedBlocks, PlanError>
+    requires { length plan.now.items ≡ length items.now }
+    ensures { IsPlanAnswer bits items.now plan.now (planned.as_moving result) }
+{
+    move_with_ready(alloc, bits, items, plan, &[])
+}
+
+/// Moves the items of a plan like [`move_planned`], with the errors of [`move_blocks`](crate::move_blocks). `TooMany` and `OldOrder` do not occur.
 pub fn move_by_plan(
     alloc: Global,
     bits: Bits,
@@ -44,25 +68,25 @@ pub fn move_by_plan(
     requires { length plan.now.items ≡ length items.now }
     ensures { IsPlanAnswer bits items.now plan.now result }
 {
-    move_with_ready(alloc, bits, items, plan, &[])
+    as_moving(move_planned(alloc, bits, items, plan))
 }
 
-/// Moves the items of a plan like [`move_by_plan`]. The ready bytes of an item, which do not depend on its place, are written as they are.
+/// Moves the items of a plan like [`move_planned`]. The ready bytes of an item, which do not depend on its place, are written as they are.
 pub(crate) fn move_with_ready(
     alloc: Global,
     bits: Bits,
     items: &[Placed],
     plan: &Plan,
     ready: &[ArrayVec<u8, 15>],
-) -> Result<MovedBlocks, MoveError>
+) -> Result<MovedBlocks, PlanError>
     requires plan { length plan.now.items ≡ length items.now }
     requires ready { AreReady bits items.now ready.now }
-    ensures { IsPlanAnswer bits items.now plan.now result }
+    ensures { IsPlanAnswer bits items.now plan.now (planned.as_moving result) }
 {
     laws_below();
     let laid = lay_out(alloc, plan)?;
     if let Some(end) = first_new_pass(bits, &laid.ends) {
-        return Err(MoveError::Wraps { end });
+        return Err(PlanError::Wraps { end });
     }
     write_blocks(alloc, bits, items, plan, &laid, ready)
 }

@@ -1,11 +1,12 @@
 //! Moving from which every target stays.
 
-ghost use Rattle.std.specs.Prelude.{◌≡◌};
+ghost use Rattle.std.specs.Prelude.{◌≡◌, ◌≤◌, length};
 ghost use Rattle.move_goals.specs.Items.{ArePlaced};
 ghost use Rattle.block_encoder.specs.ByPlan.{IsOutsideAnswer};
+ghost use Rattle.block_encoder.specs.Planned.{as_moving};
 
-use crate::by_plan::move_by_plan;
-use crate::error::MoveError;
+use crate::by_plan::move_planned;
+use crate::error::{MoveError, PlanError};
 use crate::moved::{Moved, MovedBlocks};
 use branch_sizes::MOST_ITEMS;
 use move_goals::{Placed, plan_outside};
@@ -13,13 +14,41 @@ use std::alloc::Global;
 use x86_values::Bits;
 
 /// Returns the one moved block, if blocks were moved.
-fn one_block(answer: Result<MovedBlocks, MoveError>) -> Result<Moved, MoveError>
+fn one_block(answer: Result<MovedBlocks, PlanError>) -> Result<Moved, PlanError>
     ensures { result ≡ answer }
 {
     match answer {
         Ok(blocks) => Ok(Moved { blocks }),
         Err(why) => Err(why),
     }
+}
+
+/// Returns an answer for one block as one of [`move_outside`].
+fn one_as_moving(answer: Result<Moved, PlanError>) -> Result<Moved, MoveError>
+    ensures { result ≡ as_moving answer }
+{
+    match answer {
+        Ok(moved) => Ok(moved),
+        Err(why) => Err(MoveError::from(why)),
+    }
+}
+
+/// Moves instructions to a new address like [`move_outside`], for a caller that knows them to be at most 65,536.
+///
+/// Errors: `Wraps`: the new end lies past the address space of the mode. `TooFar`: an item cannot reach its target; the first such item is reported.
+/// `Memory` can replace either.
+pub fn move_few_outside(
+    alloc: Global,
+    bits: Bits,
+    items: &[Placed],
+    new_base: u64,
+) -> Result<Moved, PlanError>
+    requires placed { ArePlaced bits items.now }
+    requires few { length items.now ≤ 65536 }
+    ensures { IsOutsideAnswer bits items.now new_base (as_moving result) }
+{
+    let plan = plan_outside(alloc, bits, items, new_base)?;
+    one_block(move_planned(alloc, bits, items, &plan))
 }
 
 /// Moves instructions to a new address, one after another, and keeps every target: a branch to one of them goes to its old address.
@@ -42,6 +71,5 @@ pub fn move_outside(
             count: items.len() as u64,
         });
     }
-    let plan = plan_outside(alloc, bits, items, new_base)?;
-    one_block(move_by_plan(alloc, bits, items, &plan))
+    one_as_moving(move_few_outside(alloc, bits, items, new_base))
 }

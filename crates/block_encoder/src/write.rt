@@ -4,10 +4,11 @@ ghost use Rattle.std.specs.Prelude.{◌≡◌, ◌<◌, ◌^◌, None, length};
 ghost use Rattle.branch_sizes.specs.MoveLayout.Laid.{IsLaidLeast};
 ghost use Rattle.move_goals.specs.Ready.{MayBeReady, AreReady};
 ghost use Rattle.block_encoder.specs.ByPlan.{IsPlanAnswer};
+ghost use Rattle.block_encoder.specs.Planned.{as_moving};
 ghost use Rattle.block_encoder.specs.Written.{IsGoalAddress, IsFragmentOf, IsItemWritten, first_end_past};
 
 use crate::ends::write_end;
-use crate::error::MoveError;
+use crate::error::PlanError;
 use crate::image::write_image;
 use crate::laws_below::laws_below;
 use crate::moved::MovedBlocks;
@@ -42,7 +43,7 @@ fn write_aimed(
     fragment: &Fragment,
     target: u64,
     bytes: &mut Vec<u8>,
-) -> Result<(), MoveError>
+) -> Result<(), PlanError>
     requires place { fragment.now.place < 2 ^ 64 }
     requires slot { fragment.now.slot < 2 ^ 64 }
     requires target { target ≡ fragment.now.goal }
@@ -51,7 +52,7 @@ fn write_aimed(
     if write_image(bits, instr, fragment, target, bytes)? {
         Ok(())
     } else {
-        Err(MoveError::TooFar {
+        Err(PlanError::TooFar {
             at: k as u64,
             target,
         })
@@ -67,7 +68,7 @@ fn write_item(
     fragment: &Fragment,
     ready: &[u8],
     bytes: &mut Vec<u8>,
-) -> Result<(), MoveError>
+) -> Result<(), PlanError>
     requires fragment { IsFragmentOf branch.now fragment.now }
     requires ready { MayBeReady bits instr.now ready.now }
     ensures { IsItemWritten bits instr.now fragment.now k bytes.old.items bytes.new.items result }
@@ -102,12 +103,12 @@ pub(crate) fn write_blocks(
     plan: &Plan,
     laid: &Layout,
     ready: &[ArrayVec<u8, 15>],
-) -> Result<MovedBlocks, MoveError>
+) -> Result<MovedBlocks, PlanError>
     requires plan { length plan.now.items ≡ length items.now }
     requires ready { AreReady bits items.now ready.now }
     requires laid { IsLaidLeast plan.now laid.now }
     requires ends { first_end_past bits laid.now.ends.items ≡ None }
-    ensures { IsPlanAnswer bits items.now plan.now result }
+    ensures { IsPlanAnswer bits items.now plan.now (as_moving result) }
 {
     laws_below();
     let spans = plan.spans();

@@ -13,7 +13,9 @@ use Rattle.move_goals.specs.Items.{one_span, passes, first_disorder}
 use Rattle.move_goals.specs.Facts.{FirstFacts}
 use Rattle.block_encoder.specs.declared.error.MoveError.{MoveError}
 use Rattle.block_encoder.specs.declared.error.MoveError.TheVariants as error
+use Rattle.block_encoder.specs.declared.error.PlanError.{PlanError}
 use Rattle.block_encoder.specs.Moved.{MovedLists, IsMoved, IsRefused, IsAnswer}
+use Rattle.block_encoder.specs.Planned.{as_moving, move_error_of}
 use Rattle.code_items.specs.Sound.{ItemList}
 use Rattle.code_items.specs.Items.{ReadsUpTo, AreItemsOf, HasItems, wrapped_item, old_pass}
 use Rattle.code_items.specs.Moving.{AreBeside, IsMovedCode, RefusesCode}
@@ -106,12 +108,10 @@ module _ (bits : Bits) (ip : ℕ) (bytes : List ℕ) (new : ℕ) (list : ItemLis
       same = h.items_are ∙ kept_same bits ip bytes h.items h.are.end h.are.reads inside
 
       -- the items are in order
-      pub in_order : (at : ℕ) → first_disorder (one_span list.items new) list.items ≡ Some at → ⊥
-      in_order at e =
-          let D : List Placed → Type 0 = λ xs. first_disorder (one_span xs new) xs ≡ Some at in
-          let here = subst D same e in
-          let none = no_disorder blocks firsts bits ip bytes h.items h.are.end [] h.are.reads new in
-          cc
+      pub in_order : first_disorder (one_span list.items new) list.items ≡ None
+      in_order =
+          let D : List Placed → Type 0 = λ xs. first_disorder (one_span xs new) xs ≡ None in
+          subst D (sym same) (no_disorder blocks firsts bits ip bytes h.items h.are.end [] h.are.reads new)
 
       -- a refusal to move the items refuses the code
       pub is_refused : (why : MoveError) → IsRefused list.bits list.items (one_span list.items new) why → RefusesCode bits ip bytes new why
@@ -151,9 +151,9 @@ none_told None h = refl
 none_told (Some x) h = absurd (h x refl)
 
 -- the refusal of a move is the one that is returned
-pub refusal_is : (bits : Bits) (items : List Placed) (spans : List BlockSpan) (answer : Result MovedLists MoveError) (why told : MoveError) →
-    IsAnswer bits items spans answer → answer ≡ Err why → why ≡ told → IsRefused bits items spans told
+pub refusal_is : (bits : Bits) (items : List Placed) (spans : List BlockSpan) (answer : Result MovedLists PlanError) (why told : PlanError) →
+    IsAnswer bits items spans (as_moving answer) → answer ≡ Err why → why ≡ told → IsRefused bits items spans (move_error_of told)
 refusal_is bits items spans answer why told h e is =
-    let A : Result MovedLists MoveError → Type 0 = λ r. IsAnswer bits items spans r in
-    let R : MoveError → Type 0 = λ w. IsRefused bits items spans w in
+    let A : Result MovedLists PlanError → Type 0 = λ r. IsAnswer bits items spans (as_moving r) in
+    let R : PlanError → Type 0 = λ w. IsRefused bits items spans (move_error_of w) in
     subst R is (subst A e h)

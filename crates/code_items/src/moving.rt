@@ -1,14 +1,15 @@
 //! Some code moved to another address.
 
-ghost use Rattle.std.specs.Prelude.{◌≡◌, length};
-ghost use Rattle.move_goals.specs.Items.{one_span};
+ghost use Rattle.std.specs.Prelude.{◌≡◌, ◌≤◌, None, length};
+ghost use Rattle.move_goals.specs.Items.{first_disorder, one_span};
 ghost use Rattle.block_encoder.specs.Moved.{IsAnswer};
+ghost use Rattle.block_encoder.specs.Planned.{as_moving};
 ghost use Rattle.code_items.specs.Items as spec;
 ghost use Rattle.code_items.specs.Moving.{IsCodeAnswer};
 
 use crate::items::CodeItems;
 use crate::reading::{ReadError, read_items};
-use block_encoder::{Form, MoveError, Moved, move_block};
+use block_encoder::{Form, MoveError, Moved, PlanError, move_block, move_ordered_block};
 use branch_sizes::MOST_ITEMS;
 use branch_sizes::laws::blocks_have_all_items;
 use decoder::DecodeError;
@@ -116,6 +117,15 @@ pub fn move_items(alloc: Global, code: &CodeItems, new: u64) -> Result<Moved, Mo
     move_block(alloc, code.bits, &code.placed, new)
 }
 
+/// Moves decoded instructions, as one block, to a new address. They are at most 65,536, and in order.
+fn move_ordered(alloc: Global, code: &CodeItems, new: u64) -> Result<Moved, PlanError>
+    requires few { length code.now.items ≤ 65536 }
+    requires order { first_disorder (one_span code.now.items new) code.now.items ≡ None }
+    ensures { IsAnswer code.now.bits code.now.items (one_span code.now.items new) (as_moving result) }
+{
+    move_ordered_block(alloc, code.bits, &code.placed, new)
+}
+
 /// Decodes the code at address `old` and moves it to address `new`.
 ///
 /// Every branch and every RIP or EIP operand still reaches its target, or follows the target if that is an instruction of the same code. Branches
@@ -154,12 +164,10 @@ pub fn move_code(
     if let Some(end) = old_pass(bits, old, bytes) {
         return Err(MoveCodeError::Wraps { end });
     }
-    match move_items(alloc, &code, new) {
+    match move_ordered(alloc, &code, new) {
         Ok(moved) => Ok(MovedCode { code, moved }),
-        Err(MoveError::Memory) => Err(MoveCodeError::Memory),
-        Err(MoveError::TooMany { count }) => Err(MoveCodeError::TooMany { count }),
-        Err(MoveError::OldOrder { .. }) => unreachable!(),
-        Err(MoveError::Wraps { end }) => Err(MoveCodeError::Wraps { end }),
-        Err(MoveError::TooFar { at, target }) => Err(MoveCodeError::TooFar { at, target }),
+        Err(PlanError::Memory) => Err(MoveCodeError::Memory),
+        Err(PlanError::Wraps { end }) => Err(MoveCodeError::Wraps { end }),
+        Err(PlanError::TooFar { at, target }) => Err(MoveCodeError::TooFar { at, target }),
     }
 }

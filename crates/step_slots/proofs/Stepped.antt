@@ -33,11 +33,6 @@ pub rounded-above : (n : ℕ) → n ≤ 53 → n ≤ len_in_units n
 unfolding len_in_units
 rounded-above n le = rw (le-leb n (2 ^ 64 - 16) (omega (arith, le))) (omega arith)
 
--- a length up to 53 rounded up to 16 is the length in units
-pub rounded-is : (n m : ℕ) → n ≤ 53 → m ≡ (n + 15) / 16 * 16 → m ≡ len_in_units n
-unfolding len_in_units
-rounded-is n m le e = rw (le-leb n (2 ^ 64 - 16) (omega (arith, le))) e
-
 -- ---- at a place
 
 end-is : (bits : Bits) (items : List Placed) (place : ℕ)

@@ -1,24 +1,12 @@
-use Rattle.std.proofs.Common.{rules, ap, ◌∙◌}
-use Rattle.branch_sizes.specs.Plan.{BlockPlan}
-use Rattle.std.proofs.Common.{length}
-use Rattle.block_encoder.specs.Moved.{IsOldSound}
-use Rattle.block_encoder.proofs.Chosen.{plan-count}
-use Rattle.move_goals.specs.Goals.{goal_at}
-use Rattle.block_encoder.proofs.Aimed.{go_to_goals}
-use Rattle.block_encoder.proofs.Answering.{answer_is}
+use Rattle.std.proofs.Common.{sym, subst}
+use Rattle.block_encoder.specs.Going.{GoToGoals}
+use Rattle.block_encoder.specs.Moved.{IsAnswer}
 use Rattle.block_encoder.proofs.blocks.move_blocks.Goals as goal
-
-pub move_with_ready-requires-clause-plan : goal.move_with_ready-requires-clause-plan
-move_with_ready-requires-clause-plan c =
-    ap (λ (p : BlockPlan). length p.items) c.in_ok-plan.ensures
-    ∙ plan-count c.args.bits c.args.spans.now c.args.items.now (goal_at c.args.spans.now c.args.items.now)
 
 pub returns-clause-answer : goal.returns-clause-answer
 returns-clause-answer c =
-    let sound : IsOldSound c.args.bits c.args.items.now c.args.spans.now =
-    record { few = search rules; order = search rules; ends = search rules } in
-    answer_is c.args.bits c.args.items.now c.args.spans.now sound c.in_ok-plan.plan c.in_ok-plan.ensures c.move_with_ready.result c.move_with_ready.ensures
+    subst (IsAnswer c.args.bits c.args.items.now c.args.spans.now) (sym c.as_moving.ensures) c.move_ordered_blocks.ensures.answer
 
 pub returns-clause-goals : goal.returns-clause-goals
 returns-clause-goals c =
-    go_to_goals c.laws_below.ensures c.args.bits c.args.items.now c.args.spans.now c.requires.spans c.requires.placed c.move_with_ready.result
+    subst (GoToGoals c.args.bits c.args.items.now c.args.spans.now) (sym c.as_moving.ensures) c.move_ordered_blocks.ensures.goals

@@ -1,6 +1,6 @@
-use Rattle.move_goals.specs.Items.{item_at}
-use Rattle.block_encoder.proofs.Ready.{none_ready}
+use Rattle.std.proofs.Common.{sym, subst}
+use Rattle.block_encoder.specs.ByPlan.{IsPlanAnswer}
 use Rattle.block_encoder.proofs.by_plan.move_by_plan.Goals as goal
 
-pub move_with_ready-requires-clause-ready : goal.move_with_ready-requires-clause-ready
-move_with_ready-requires-clause-ready c = λ k. none_ready c.args.bits (item_at c.args.items.now k).instr
+pub returns : goal.returns
+returns c = subst (IsPlanAnswer c.args.bits c.args.items.now c.args.plan.now) (sym c.as_moving.ensures) c.move_planned.ensures
