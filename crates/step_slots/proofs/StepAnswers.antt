@@ -6,10 +6,11 @@ use Rattle.x86_values.specs.declared.Bits.{Bits}
 use Rattle.x86_values.specs.Wrapping.{width}
 use Rattle.move_goals.specs.declared.items.Placed.{Placed}
 use Rattle.move_goals.specs.Items.{IsPlaced, ArePlaced}
-use Rattle.block_encoder.specs.declared.error.MoveError.{MoveError}
-use Rattle.block_encoder.specs.declared.error.MoveError.TheVariants.{Memory, TooMany, OldOrder, Wraps, TooFar}
+use Rattle.block_encoder.specs.declared.error.PlanError.{PlanError}
+use Rattle.block_encoder.specs.declared.error.PlanError.TheVariants.{Memory, Wraps, TooFar}
 use Rattle.block_encoder.specs.Moved.{MovedLists}
 use Rattle.block_encoder.specs.ByPlan.{IsOutsideAnswer}
+use Rattle.block_encoder.specs.Planned.{as_moving}
 use Rattle.block_encoder.specs.Last.{last_len}
 use Rattle.code_region.specs.declared.gaps.Span.{Span}
 use Rattle.code_region.specs.declared.refusals.PlaceError.{PlaceError}
@@ -56,11 +57,11 @@ pub answer-is : (region : RegionState) (len reserved_len : ℕ) → len ≡ rese
 answer-is region len reserved_len same answer told is e = sym (ap (place_answer region) same) ∙ (sym is ∙ e)
 
 -- the answer of the mover is one for the items of the step
-pub outside-is : (bits : Bits) (given items : List Placed) → given ≡ items → (place : ℕ) (answer told : Result MovedLists MoveError) → answer ≡ told
-    → IsOutsideAnswer bits given place answer → IsOutsideAnswer bits items place told
+pub outside-is : (bits : Bits) (given items : List Placed) → given ≡ items → (place : ℕ) (answer told : Result MovedLists PlanError) → answer ≡ told
+    → IsOutsideAnswer bits given place (as_moving answer) → IsOutsideAnswer bits items place (as_moving told)
 outside-is bits given items same place answer told is h =
-    subst (λ (xs : List Placed). IsOutsideAnswer bits xs place told) same
-    (subst (λ (r : Result MovedLists MoveError). IsOutsideAnswer bits given place r) is h)
+    subst (λ (xs : List Placed). IsOutsideAnswer bits xs place (as_moving told)) same
+    (subst (λ (r : Result MovedLists PlanError). IsOutsideAnswer bits given place (as_moving r)) is h)
 
 module _ (laws : StepLawsBelow) where
   -- the items of a step are placed
@@ -84,19 +85,15 @@ module _ (laws : StepLawsBelow) where
     module _ (inside : region.base + region.size ≤ 2 ^ width bits) (sound : IsSound region) (units : AreInUnits region) (place : ℕ)
         (e : place_answer region (reserved_room bits region.base item) ≡ Ok place) where
       -- the only refusals of the mover are memory and reach
-      pub reach-refusal : (why : MoveError) → IsOutsideAnswer bits (step_items bits item) place (Err why) → IsOfReach why
+      pub reach-refusal : (why : PlanError) → IsOutsideAnswer bits (step_items bits item) place (as_moving (Err why)) → IsOfReach why
       reach-refusal Memory h = tt
-      reach-refusal (TooMany n) h = let many = h.0 in absurd (omega (arith, many))
-      reach-refusal (OldOrder n) h = h.1
       reach-refusal (Wraps end) h = never-passes laws bits item spelled region inside sound units place e end h.1
       reach-refusal (TooFar at target) h = tt
 
       -- an instruction that is not moved is not stepped
-      pub not-moved : (why : MoveError) → IsOutsideAnswer bits (step_items bits item) place (Err why) → (new : RegionState) → new ≡ region
+      pub not-moved : (why : PlanError) → IsOutsideAnswer bits (step_items bits item) place (as_moving (Err why)) → (new : RegionState) → new ≡ region
           → IsBlockStepped bits region item (Err (move_refusal_of why)) new
       not-moved Memory h new same = same
-      not-moved (TooMany n) h new same = same
-      not-moved (OldOrder n) h new same = same
       not-moved (Wraps end) h new same = same
       not-moved (TooFar at target) h new same =
           ((place, (e, only-first laws bits item spelled region inside sound units place e at target h.1)), same)

@@ -1,5 +1,5 @@
 -- What is known of the block of a step once there is a place for it.
-use Rattle.std.proofs.Common.{◌≡◌, ℕ, zero, suc, ◌+◌, ◌-◌, ◌^◌, ◌≤◌, ◌<◌, List, length, ◌/◌, ◌*◌, arith, ap, refl, subst, Option, Some, None, Ok, Bool}
+use Rattle.std.proofs.Common.{◌≡◌, ℕ, zero, suc, ◌+◌, ◌-◌, ◌^◌, ◌≤◌, ◌<◌, List, length, arith, ap, refl, subst, Option, Some, None, Ok, Bool}
 use Rattle.std.specs.Prelude.{if◌then◌else◌}
 use Rattle.std.proofs.lemmas.Bool.{le-leb, le-ltb}
 use Rattle.x86_values.specs.declared.Bits.{Bits}
@@ -32,11 +32,6 @@ back-below B64 item = omega arith
 pub rounded-above : (n : ℕ) → n ≤ 53 → n ≤ len_in_units n
 unfolding len_in_units
 rounded-above n le = rw (le-leb n (2 ^ 64 - 16) (omega (arith, le))) (omega arith)
-
--- a length up to 53 rounded up to 16 is the length in units
-pub rounded-is : (n m : ℕ) → n ≤ 53 → m ≡ (n + 15) / 16 * 16 → m ≡ len_in_units n
-unfolding len_in_units
-rounded-is n m le e = rw (le-leb n (2 ^ 64 - 16) (omega (arith, le))) e
 
 -- ---- at a place
 

@@ -3,8 +3,8 @@ use Rattle.std.specs.Prelude.{◌≡◌, ℕ, ◌+◌, ◌^◌, nat_lt, if◌the
 use Rattle.x86_values.specs.declared.Bits.{Bits}
 use Rattle.x86_values.specs.Wrapping.{width}
 use Rattle.move_goals.specs.declared.items.Placed.{Placed}
-use Rattle.block_encoder.specs.declared.error.MoveError.{MoveError}
-use Rattle.block_encoder.specs.declared.error.MoveError.TheVariants as move_error
+use Rattle.block_encoder.specs.declared.error.PlanError.{PlanError}
+use Rattle.block_encoder.specs.declared.error.PlanError.TheVariants as plan_error
 use Rattle.code_region.specs.declared.refusals.OpenError.{OpenError}
 use Rattle.code_region.specs.declared.refusals.OpenError.TheVariants as open_error
 use Rattle.code_region.specs.declared.refusals.PlaceError.{PlaceError}
@@ -41,14 +41,14 @@ place_refusal_of (place_error.Full len largest) rounded_len = Full len largest
 place_refusal_of place_error.Empty rounded_len = Memory
 
 -- a refusal of a block that ends inside the address space
-abbrev pub IsOfReach : MoveError → Type 0
-IsOfReach (move_error.TooFar at target) = Unit {0}
-IsOfReach move_error.Memory = Unit {0}
-IsOfReach why = ⊥
+abbrev pub IsOfReach : PlanError → Type 0
+IsOfReach (plan_error.TooFar at target) = Unit {0}
+IsOfReach plan_error.Memory = Unit {0}
+IsOfReach (plan_error.Wraps end) = ⊥
 
 -- why a step is refused then
-abbrev pub move_refusal_of : MoveError → StepError
-move_refusal_of (move_error.TooFar at target) = TooFar target
+abbrev pub move_refusal_of : PlanError → StepError
+move_refusal_of (plan_error.TooFar at target) = TooFar target
 move_refusal_of why = Memory
 
 -- The region after a step: its block is placed and filled, or nothing changed. Full comes where there is no place for the reserved length, TooFar where

@@ -4,15 +4,14 @@ ghost use Rattle.std.specs.Prelude.{◌≡◌, ◌≤◌, ◌+◌, ◌<◌, ◌^
 ghost use Rattle.x86_values.specs.Wrapping.{width};
 ghost use Rattle.code_region.specs.Keeping.{IsSound};
 ghost use Rattle.code_region.specs.Laws.{AreInUnits};
-ghost use Rattle.code_region.specs.State.{len_in_units};
 ghost use Rattle.move_goals.specs.Items.{IsPlaced};
 ghost use Rattle.step_slots.specs.Block as spec;
 ghost use Rattle.step_slots.specs.Stepping.{IsBlockStepped, IsOfLength, IsOfReach, place_refusal_of, move_refusal_of};
 
 use crate::laws_below::laws_below;
 use crate::refusals::StepError;
-use block_encoder::{MoveError, Placed, last_len, move_outside};
-use code_region::{PlaceError, Region};
+use block_encoder::{Placed, PlanError, last_len, move_few_outside};
+use code_region::{PlaceError, Region, round_up};
 use move_goals::branch_forms::{Action, near_code};
 use move_goals::moved_targets::plain_length;
 use std::alloc::Global;
@@ -68,23 +67,15 @@ fn place_refusal(why: PlaceError, len: u64) -> StepError
 }
 
 /// Why a step is refused, by why its block is not moved.
-fn move_refusal(why: MoveError) -> StepError
+fn move_refusal(why: PlanError) -> StepError
     requires { IsOfReach why }
     ensures { result ≡ move_refusal_of why }
 {
     match why {
-        MoveError::TooFar { target, .. } => StepError::TooFar { target },
-        MoveError::Memory => StepError::Memory,
-        _ => unreachable!(),
+        PlanError::TooFar { target, .. } => StepError::TooFar { target },
+        PlanError::Memory => StepError::Memory,
+        PlanError::Wraps { .. } => unreachable!(),
     }
-}
-
-/// A length rounded up to a multiple of 16.
-fn round_up(len: u64) -> u64
-    requires { len ≤ 53 }
-    ensures { result ≡ len_in_units len }
-{
-    (len + 15) / 16 * 16
 }
 
 /// Places the block of an instruction in a region that starts at `base`, and fills it.
@@ -109,7 +100,7 @@ pub(crate) fn step_block(
         Ok(place) => place,
         Err(why) => return Err(place_refusal(why, round_up(len))),
     };
-    match move_outside(alloc, bits, &items, place) {
+    match move_few_outside(alloc, bits, &items, place) {
         Ok(moved) => {
             region.fill(place, moved.bytes());
             Ok(place)

@@ -9,7 +9,7 @@ ghost use Rattle.step_slots.specs.Standing.{IsStood, FitsReserved};
 
 use crate::block::step_items;
 use crate::laws_below::laws_below;
-use block_encoder::{MoveError, Moved, Placed, last_len, move_outside};
+use block_encoder::{Moved, Placed, PlanError, last_len, move_few_outside};
 use branch_sizes::Form;
 use move_goals::branch_forms::{Image, image_of};
 use move_goals::moved_targets::plain_length;
@@ -59,13 +59,11 @@ pub fn step_at(alloc: Global, bits: Bits, item: Placed, place: u64) -> Result<Mo
 {
     laws_below();
     let items = step_items(bits, item);
-    match move_outside(alloc, bits, &items, place) {
+    match move_few_outside(alloc, bits, &items, place) {
         Ok(moved) => Ok(moved),
-        Err(MoveError::Memory) => Err(StandError::Memory),
-        Err(MoveError::Wraps { end }) => Err(StandError::Wraps { end }),
-        Err(MoveError::TooFar { target, .. }) => Err(StandError::TooFar { target }),
-        Err(MoveError::TooMany { .. }) => unreachable!(),
-        Err(MoveError::OldOrder { .. }) => unreachable!(),
+        Err(PlanError::Memory) => Err(StandError::Memory),
+        Err(PlanError::Wraps { end }) => Err(StandError::Wraps { end }),
+        Err(PlanError::TooFar { target, .. }) => Err(StandError::TooFar { target }),
     }
 }
 
