@@ -35,7 +35,7 @@ pub fn write_bytes(image: &mut [u8], start: usize, len: usize, content: &[u8])
     erase(image, start + content.len(), len - content.len());
 }
 
-/// Writes `count` times `byte` at `start`, and INT3 to the rest of the `len` bytes.
+/// Writes `count` times `byte`, as [`write_bytes`] does.
 fn repeat(image: &mut [u8], start: usize, len: usize, byte: u8, count: usize)
     requires inside { start + len ≤ length image.old }
     requires fits { count ≤ len }
@@ -45,7 +45,7 @@ fn repeat(image: &mut [u8], start: usize, len: usize, byte: u8, count: usize)
     erase(image, start + count, len - count);
 }
 
-/// Writes `content` at `start`, and INT3 to the rest of the `len` bytes.
+/// Writes `content`, of either kind, as [`write_bytes`] does.
 pub fn write(image: &mut [u8], start: usize, len: usize, content: Content<'_>)
     requires inside { start + len ≤ length image.old }
     requires fits { length (content_bytes content) ≤ len }
