@@ -1,6 +1,6 @@
 -- The entries of moved instructions, one by one, and how many lists' elements there are.
-use Rattle.std.proofs.Common.{◌≡◌, ℕ, ◌+◌, List, [], ◌∷◌, ◌++◌, length, refl, ap, ◌∙◌, arith}
-use Rattle.std.specs.Prelude.{Ok}
+use Rattle.std.proofs.Common.{◌≡◌, ℕ, ◌+◌, ◌<◌, List, [], ◌∷◌, ◌++◌, length, refl, ap, ◌∙◌, arith}
+use Rattle.std.specs.Prelude.{Ok, Err}
 use Rattle.std.proofs.lemmas.List.FromFn.{length-map-range_with_len, map-range_with_len_more}
 use Rattle.x86_values.specs.declared.Bits.{Bits}
 use Rattle.branch_sizes.specs.Plan.{BlockPlan}
@@ -8,6 +8,7 @@ use Rattle.branch_sizes.specs.declared.plan.Form.{Form}
 use Rattle.move_goals.specs.declared.items.Placed.{Placed}
 use Rattle.move_goals.specs.Items.{one_span}
 use Rattle.move_goals.specs.Plan.{plan_for, plan_outside}
+use Rattle.block_encoder.specs.declared.error.MoveError.TheVariants.{TooMany}
 use Rattle.block_encoder.specs.Moved.{MovedLists, AreListsOf}
 use Rattle.c_calls.specs.declared.moved.Targets.{Targets}
 use Rattle.c_calls.specs.declared.moved.Targets.TheVariants.{Follow, Stay}
@@ -41,3 +42,9 @@ starts_length targets bits items new m h = ap length (lists_of targets bits item
 pub forms_length : (targets : Targets) (bits : Bits) (items : List Placed) (new : ℕ) (m : MovedLists) → IsRelocated targets bits items new (Ok m) →
     length m.forms ≡ length items
 forms_length targets bits items new m h = ap length (lists_of targets bits items new m h).2.forms ∙ length-map-range_with_len _ 0 (length items)
+
+-- more than 65,536 instructions are too many
+pub too_many : (targets : Targets) (bits : Bits) (items : List Placed) (new count : ℕ) → 65536 < length items → count ≡ length items →
+    IsRelocated targets bits items new (Err (TooMany count))
+too_many Follow bits items new count more is = (more, is)
+too_many Stay bits items new count more is = (more, is)

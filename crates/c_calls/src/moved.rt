@@ -2,13 +2,15 @@
 
 ghost use Rattle.std.specs.Prelude.{◌≡◌, ◌+◌, ◌≤◌, ◌^◌, ◌<◌, length, None, IfOk, MatchResult};
 ghost use Rattle.move_goals.specs.Items.{ArePlaced, first_disorder, one_span};
+ghost use Rattle.block_encoder.specs.Planned.{as_moving};
 ghost use Rattle.c_calls.specs.Moving as spec;
 ghost use Rattle.c_calls.specs.Numbers.{bits_numbered};
 
 use crate::code_len::code_len;
 use crate::flat::FlatMoved;
 use crate::numbers::bits_numbered;
-use block_encoder::{Form, MoveError, Moved, Placed, move_block, move_outside};
+use block_encoder::{Form, Moved, Placed, PlanError, move_few_outside, move_ordered_block};
+use branch_sizes::MOST_ITEMS;
 use decoder::{DecodeError, decode_in};
 use move_goals::passes;
 use std::alloc::{AllocError, Global};
@@ -149,13 +151,15 @@ fn relocate(
     bits: Bits,
     items: &[Placed],
     new: u64,
-) -> Result<Moved, MoveError>
-    requires { ArePlaced bits items.now }
-    ensures { spec.IsRelocated targets bits items.now new result }
+) -> Result<Moved, PlanError>
+    requires placed { ArePlaced bits items.now }
+    requires few { length items.now ≤ 65536 }
+    requires order { first_disorder (one_span items.now new) items.now ≡ None }
+    ensures { spec.IsRelocated targets bits items.now new (as_moving result) }
 {
     match targets {
-        Targets::Follow => move_block(alloc, bits, items, new),
-        Targets::Stay => move_outside(alloc, bits, items, new),
+        Targets::Follow => move_ordered_block(alloc, bits, items, new),
+        Targets::Stay => move_few_outside(alloc, bits, items, new),
     }
 }
 
@@ -171,6 +175,11 @@ fn move_items(
     requires order { first_disorder (one_span items.now new) items.now ≡ None }
     ensures { spec.IsItemsAnswer targets bits items.now new result }
 {
+    if items.len() > MOST_ITEMS {
+        return Err(MoveRefusal::TooMany {
+            count: items.len() as u64,
+        });
+    }
     match relocate(alloc, targets, bits, items, new) {
         Ok(moved) => match entries_of(alloc, items, moved.starts(), moved.forms()) {
             Ok(entries) => {
@@ -184,11 +193,9 @@ fn move_items(
             }
             Err(_) => Err(MoveRefusal::Memory),
         },
-        Err(MoveError::Memory) => Err(MoveRefusal::Memory),
-        Err(MoveError::TooMany { count }) => Err(MoveRefusal::TooMany { count }),
-        Err(MoveError::OldOrder { .. }) => unreachable!(),
-        Err(MoveError::Wraps { end }) => Err(MoveRefusal::Wraps { end }),
-        Err(MoveError::TooFar { at, target }) => Err(MoveRefusal::TooFar { at, target }),
+        Err(PlanError::Memory) => Err(MoveRefusal::Memory),
+        Err(PlanError::Wraps { end }) => Err(MoveRefusal::Wraps { end }),
+        Err(PlanError::TooFar { at, target }) => Err(MoveRefusal::TooFar { at, target }),
     }
 }
 

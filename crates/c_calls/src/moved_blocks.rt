@@ -11,7 +11,8 @@ use crate::block_places::{InBlock, block_of, places_of};
 use crate::flat::{FlatBlock, FlatMoved, FlatPlace};
 use crate::moved::{MOST, MoveRefusal, code_end, entries_of, read_items};
 use crate::numbers::bits_numbered;
-use block_encoder::{BlockSpan, MoveError, MovedBlocks, Placed, move_blocks};
+use block_encoder::{BlockSpan, MovedBlocks, Placed, PlanError, move_ordered_blocks};
+use branch_sizes::MOST_ITEMS;
 use decoder::DecodeError;
 use move_goals::passes;
 use std::alloc::Global;
@@ -179,7 +180,12 @@ fn move_read(
     requires order { first_disorder spans.now items.now ≡ None }
     ensures { spec.IsBlocksAnswerOf bits spans.now items.now result }
 {
-    match move_blocks(alloc, bits, items, spans) {
+    if items.len() > MOST_ITEMS {
+        return Err(BlocksRefusal::TooMany {
+            count: items.len() as u64,
+        });
+    }
+    match move_ordered_blocks(alloc, bits, items, spans) {
         Ok(moved) => {
             let Ok(entries) = entries_of(alloc, items, moved.starts(), moved.forms()) else {
                 return Err(BlocksRefusal::Memory);
@@ -193,11 +199,9 @@ fn move_read(
                 places,
             })
         }
-        Err(MoveError::Memory) => Err(BlocksRefusal::Memory),
-        Err(MoveError::TooMany { count }) => Err(BlocksRefusal::TooMany { count }),
-        Err(MoveError::OldOrder { .. }) => unreachable!(),
-        Err(MoveError::Wraps { end }) => Err(BlocksRefusal::Wraps { end }),
-        Err(MoveError::TooFar { at, target }) => Err(too_far(spans, at, target)),
+        Err(PlanError::Memory) => Err(BlocksRefusal::Memory),
+        Err(PlanError::Wraps { end }) => Err(BlocksRefusal::Wraps { end }),
+        Err(PlanError::TooFar { at, target }) => Err(too_far(spans, at, target)),
     }
 }
 

@@ -5,9 +5,11 @@ use Rattle.x86_values.specs.declared.Bits.{Bits}
 use Rattle.x86_values.specs.declared.Bits.TheVariants.{B64}
 use Rattle.flow_graph.specs.Control.{code_bytes}
 use Rattle.move_goals.specs.declared.items.Placed.{Placed}
-use Rattle.block_encoder.specs.declared.error.MoveError.{MoveError}
 use Rattle.block_encoder.specs.declared.error.MoveError.TheVariants as move_error
+use Rattle.block_encoder.specs.declared.error.PlanError.{PlanError}
+use Rattle.block_encoder.specs.declared.error.PlanError.TheVariants as plan_error
 use Rattle.block_encoder.specs.ByPlan.{IsPlanAnswer}
+use Rattle.block_encoder.specs.Planned.{move_error_of}
 use Rattle.detour.specs.declared.error.DetourError.{DetourError}
 use Rattle.detour.specs.declared.error.DetourError.TheVariants.{Memory, BadCode, TooSmall, Ends, Entered, Wraps, TooFar}
 use Rattle.detour.specs.declared.making.Jump.{Jump}
@@ -47,17 +49,17 @@ module _ (bits : Bits) (ip : ℕ) (code : List ℕ) (place : ℕ) (start : Start
 
   module _ (items : List Placed) where
     -- nor where what is taken is not moved
-    unmoved : (why : MoveError) → IsPlanAnswer bits (block_items bits ip items) (trampoline_plan bits ip items place start) (Err why)
-        → (why ≡ move_error.Memory → ⊥) → IsRelayBehind bits ip place start (Ok items) None
-    unmoved move_error.Memory h other = absurd (other refl)
-    unmoved (move_error.TooMany count) h other = absurd h
-    unmoved (move_error.OldOrder at) h other = absurd h
-    unmoved (move_error.Wraps end) h other = (Err (move_error.Wraps end), (h, refl))
-    unmoved (move_error.TooFar at target) h other = (Err (move_error.TooFar at target), (h, refl))
+    unmoved : (why : PlanError)
+        → IsPlanAnswer bits (block_items bits ip items) (trampoline_plan bits ip items place start) (Err (move_error_of why))
+        → (why ≡ plan_error.Memory → ⊥) → IsRelayBehind bits ip place start (Ok items) None
+    unmoved plan_error.Memory h other = absurd (other refl)
+    unmoved (plan_error.Wraps end) h other = (Err (move_error.Wraps end), (h, refl))
+    unmoved (plan_error.TooFar at target) h other = (Err (move_error.TooFar at target), (h, refl))
 
     -- nor if what is taken cannot be moved, for another cause than memory
-    pub relay_unmoved : (why : MoveError) → IsPlanAnswer bits (block_items bits ip items) (trampoline_plan bits ip items place start) (Err why)
-        → (r : Result (Option ℕ) DetourError) → IfOk r (λ relay. (relay ≡ None) × (why ≡ move_error.Memory → ⊥))
+    pub relay_unmoved : (why : PlanError)
+        → IsPlanAnswer bits (block_items bits ip items) (trampoline_plan bits ip items place start) (Err (move_error_of why))
+        → (r : Result (Option ℕ) DetourError) → IfOk r (λ relay. (relay ≡ None) × (why ≡ plan_error.Memory → ⊥))
         → IfOk r (λ relay. IsRelayBehind bits ip place start (Ok items) relay)
     relay_unmoved why h (Ok relay) none = subst (λ (x : Option ℕ). IsRelayBehind bits ip place start (Ok items) x) (sym none.0) (unmoved why h none.1)
     relay_unmoved why h (Err lost) none = tt
@@ -99,14 +101,13 @@ module _ (laws : DetourLawsBelow) (bits : Bits) (ip : ℕ) (code : List ℕ) (to
   module _ (t : Taken) (are : AreTaken bits ip code (length jump.bytes.items) t.items.items) (whole : first_code_behind t.items.items ≡ None)
       (len : t.len ≡ taken_bytes t.items.items) (placed : ArePlaced bits t.items.items) (closed : IsNotEntered (code_bytes bits ip code) t.items.items) where
     -- it is not moved
-    unmoved_refused : (why : MoveError) → IsPlanAnswer bits (block_items bits ip t.items.items) (trampoline_plan bits ip t.items.items place start) (Err why)
+    unmoved_refused : (why : PlanError)
+        → IsPlanAnswer bits (block_items bits ip t.items.items) (trampoline_plan bits ip t.items.items place start) (Err (move_error_of why))
         → IsAnswerTo bits ip code to place start (Err (detour_error_of why))
-    unmoved_refused move_error.Memory h = tt
-    unmoved_refused (move_error.TooMany count) h = absurd h
-    unmoved_refused (move_error.OldOrder at) h = absurd h
-    unmoved_refused (move_error.Wraps end) h =
+    unmoved_refused plan_error.Memory h = tt
+    unmoved_refused (plan_error.Wraps end) h =
         record { jump = parts_of_jump jump; first = first; items = t.items.items; are_taken = are; whole = whole; closed = closed; refused = h }
-    unmoved_refused (move_error.TooFar at target) h =
+    unmoved_refused (plan_error.TooFar at target) h =
         record { jump = parts_of_jump jump; first = first; items = t.items.items; are_taken = are; whole = whole; closed = closed; refused = h }
 
     -- **what is laid of it is the answer**

@@ -1,13 +1,14 @@
 -- What the parts of the making of a detour give.
 use Rattle.std.specs.Prelude.{◌≡◌, ◌⊎◌, ℕ, ◌≤◌, List, ◌++◌, Option, Some, None, IfSome, Result, Ok, Err}
 use Rattle.x86_values.specs.declared.Bits.{Bits}
-use Rattle.block_encoder.specs.declared.error.MoveError.{MoveError}
-use Rattle.block_encoder.specs.declared.error.MoveError.TheVariants as move_error
+use Rattle.block_encoder.specs.declared.error.PlanError.{PlanError}
+use Rattle.block_encoder.specs.declared.error.PlanError.TheVariants as plan_error
 use Rattle.detour.specs.declared.error.DetourError.{DetourError}
 use Rattle.detour.specs.declared.error.DetourError.TheVariants.{Memory, Wraps, TooFar}
 use Rattle.detour.specs.declared.taken.Taken.{Taken}
 use Rattle.block_encoder.specs.Moved.{MovedLists}
 use Rattle.block_encoder.specs.ByPlan.{IsPlanAnswer}
+use Rattle.block_encoder.specs.Planned.{move_error_of}
 use Rattle.detour.specs.declared.making.Jump.{Jump}
 use Rattle.detour.specs.declared.parts.JumpForm.{JumpForm}
 use Rattle.detour.specs.declared.parts.JumpForm.TheVariants.{Near, Relay, Absolute}
@@ -23,10 +24,10 @@ IsWholeTaken bits ip code need (Ok t) = (IsTakenFit bits t × (need ≤ t.len)) 
 IsWholeTaken bits ip code need (Err why) = IsTakenAnswer bits ip code need (Err why)
 
 -- the refusal of a moving
-abbrev pub detour_error_of : MoveError → DetourError
-detour_error_of (move_error.Wraps end) = Wraps end
-detour_error_of (move_error.TooFar at target) = TooFar at target
-detour_error_of why = Memory
+abbrev pub detour_error_of : PlanError → DetourError
+detour_error_of plan_error.Memory = Memory
+detour_error_of (plan_error.Wraps end) = Wraps end
+detour_error_of (plan_error.TooFar at target) = TooFar at target
 
 -- the jump to a relay that is reached, else the one that is followed by its address
 abbrev pub IsFarJumpOf : Bits → ℕ → ℕ → Option ℕ → JumpForm → List ℕ → Option ℕ → Type 0
@@ -55,5 +56,6 @@ IsLaidBy bits ip to place start jump t d =
 abbrev pub IsDetourLaid : Bits → ℕ → ℕ → ℕ → StartTarget → Jump → Taken → Result DetourState DetourError → Type 0
 IsDetourLaid bits ip to place start jump t (Ok d) = IsLaidBy bits ip to place start jump t d
 IsDetourLaid bits ip to place start jump t (Err why) =
-    (why ≡ Memory) ⊎ ((cause : MoveError) × ((why ≡ detour_error_of cause)
-    × IsPlanAnswer bits (block_items bits ip t.items.items) (trampoline_plan bits ip t.items.items place start) (Err cause)))
+    (why ≡ Memory) ⊎ ((cause : PlanError) × ((why ≡ detour_error_of cause)
+    × IsPlanAnswer bits (block_items bits ip t.items.items) (trampoline_plan bits ip t.items.items place start)
+    (Err (move_error_of cause))))

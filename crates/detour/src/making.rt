@@ -5,7 +5,7 @@ ghost use Rattle.x86_values.specs.Wrapping.{width};
 ghost use Rattle.detour.specs.declared.error.DetourError.TheVariants.{Memory};
 ghost use Rattle.detour.specs.Detours as spec;
 ghost use Rattle.detour.specs.Detours.{IsRelay, IsRelayBehind, IsJumpOf, IsAnswerTo, IsDetourAnswer, relay_bytes};
-ghost use Rattle.block_encoder.specs.declared.error.MoveError.TheVariants as move_error;
+ghost use Rattle.block_encoder.specs.declared.error.PlanError.TheVariants as plan_error;
 ghost use Rattle.detour.specs.Made.{IsWholeTaken, IsFarJump, IsPutTogether, IsDetourLaid, detour_error_of};
 ghost use Rattle.detour.specs.Reading.{AreCoded, IsTakenFit};
 ghost use Rattle.detour.specs.Taken.{taken_bytes};
@@ -20,20 +20,20 @@ use crate::start::StartTarget;
 use crate::taken::{Taken, first_code_behind, first_end, offset_at, take};
 use crate::trampoline::lay_trampoline;
 use arrayvec::ArrayVec;
-use block_encoder::{MoveError, MovedBlocks};
+use block_encoder::{MovedBlocks, PlanError};
 use flow_graph::FlowError;
 use move_goals::Placed;
 use std::alloc::{AllocError, Global};
 use x86_values::{Bits, wrap};
 
 /// The refusal of a moving.
-fn move_refusal(why: MoveError) -> DetourError
+fn move_refusal(why: PlanError) -> DetourError
     ensures { result ≡ detour_error_of why }
 {
     match why {
-        MoveError::Wraps { end } => DetourError::Wraps { end },
-        MoveError::TooFar { at, target } => DetourError::TooFar { at, target },
-        _ => DetourError::Memory,
+        PlanError::Memory => DetourError::Memory,
+        PlanError::Wraps { end } => DetourError::Wraps { end },
+        PlanError::TooFar { at, target } => DetourError::TooFar { at, target },
     }
 }
 
@@ -82,12 +82,12 @@ fn no_relay_for(why: DetourError) -> Result<Option<u64>, DetourError>
 }
 
 /// Returns that there is no relay, if the move is refused for any cause except lack of memory.
-fn no_relay_behind(why: MoveError) -> Result<Option<u64>, DetourError>
-    ensures none { IfOk result (λ relay. (relay ≡ None) × (why ≡ move_error.Memory → ⊥)) }
+fn no_relay_behind(why: PlanError) -> Result<Option<u64>, DetourError>
+    ensures none { IfOk result (λ relay. (relay ≡ None) × (why ≡ plan_error.Memory → ⊥)) }
     ensures refused { IfErr result (λ error. error ≡ Memory) }
 {
     match why {
-        MoveError::Memory => Err(DetourError::Memory),
+        PlanError::Memory => Err(DetourError::Memory),
         _ => Ok(None),
     }
 }

@@ -5,6 +5,7 @@ ghost use Rattle.move_goals.specs.Items.{ArePlaced, first_below};
 ghost use Rattle.move_goals.specs.Goals.{begins_at};
 ghost use Rattle.move_goals.specs.Plan.{branch_with};
 ghost use Rattle.block_encoder.specs.ByPlan.{IsPlanAnswer};
+ghost use Rattle.block_encoder.specs.Planned.{as_moving};
 ghost use Rattle.detour.specs.Reading.{IsTakenFit};
 ghost use Rattle.detour.specs.Trampoline as spec;
 
@@ -12,7 +13,7 @@ use crate::jumps::jump_back;
 use crate::laws_below::laws_below;
 use crate::start::StartTarget;
 use crate::taken::{Taken, first_end, moved_count};
-use block_encoder::{MoveError, MovedBlocks, move_by_plan};
+use block_encoder::{MovedBlocks, PlanError, move_planned};
 use branch_sizes::{Branch, Goal, Plan};
 use move_goals::Placed;
 use move_goals::branch_forms::choices_of;
@@ -132,13 +133,14 @@ pub(crate) fn lay_trampoline(
     taken: &Taken,
     place: u64,
     start: StartTarget,
-) -> Result<MovedBlocks, MoveError>
+) -> Result<MovedBlocks, PlanError>
     requires { IsTakenFit bits taken.now }
-    ensures { IsPlanAnswer bits (spec.block_items bits ip taken.now.items.items) (spec.trampoline_plan bits ip taken.now.items.items place start) result }
+    ensures { IsPlanAnswer bits (spec.block_items bits ip taken.now.items.items) (spec.trampoline_plan bits ip taken.now.items.items place start)
+        (as_moving result) }
 {
     laws_below();
     let items = block_items(alloc, bits, ip, taken)?;
     let count = moved_count(&taken.items);
     let plan = plan_at(alloc, bits, &items, count, place, start)?;
-    move_by_plan(alloc, bits, &items, &plan)
+    move_planned(alloc, bits, &items, &plan)
 }

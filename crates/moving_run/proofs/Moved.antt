@@ -3,7 +3,7 @@ use Rattle.std.proofs.Common.{◌≡◌, ℕ, ◌≤◌, List, length, Option, S
 use Rattle.std.proofs.lemmas.List.FromFn.{length-map-range_with_len}
 use Rattle.x86_values.specs.declared.Bits.{Bits}
 use Rattle.move_goals.specs.declared.items.Placed.{Placed}
-use Rattle.move_goals.specs.Items.{AreSpansOf, ArePlaced}
+use Rattle.move_goals.specs.Items.{AreSpansOf, ArePlaced, first_disorder}
 use Rattle.block_encoder.specs.declared.error.MoveError.{MoveError}
 use Rattle.block_encoder.specs.declared.error.MoveError.TheVariants as error
 use Rattle.block_encoder.specs.Moved.{MovedLists, IsMoved, IsRefused}
@@ -72,11 +72,13 @@ module _ (blocks : BlockFacts) (bits : Bits) (words : List BlockWords) (bytes : 
       refused = rw (← items_are, ← is.spans_are) h;
     }
 
+    -- they are few
+    pub code_few : length code.items.items ≤ 65536
+    code_few = subst (λ (items : List Placed). length items ≤ 65536) (sym items_are) few_items
+
     -- no instruction is out of order
-    pub ordered : (at : ℕ) → IsRefused bits code.items.items code.spans.items (error.OldOrder at) → ⊥
-    ordered at h =
-        let there : IsRefused bits (all_placed words is.items) (all_spans words is.items) (error.OldOrder at) = rw (← items_are, ← is.spans_are) h in
-        let e : Some at ≡ None = sym there.1 ∙ no_disorder blocks bits words bytes is.items is.swept in cc
+    pub ordered : first_disorder code.spans.items code.items.items ≡ None
+    ordered = rw (items_are, is.spans_are) (no_disorder blocks bits words bytes is.items is.swept)
 
 -- ---- the command
 

@@ -9,7 +9,7 @@ ghost use Rattle.moving_run.specs.Moving as spec;
 use crate::code::{Code, CodeError, first_pass, read_code};
 use crate::laws::{inputs_have_one_answer, moved_blocks_are_read_back};
 use crate::map::write_map;
-use block_encoder::{MoveError, MovedBlocks, move_blocks};
+use block_encoder::{MovedBlocks, PlanError, move_ordered_blocks};
 use branch_sizes::MOST_ITEMS;
 use branch_sizes::laws::blocks_have_all_items;
 use byte_ports::{Failed, Sink, Source};
@@ -64,16 +64,14 @@ pub fn move_input(
     if let Some(end) = first_pass(bits, words, input) {
         return Err(Status::Wraps { end });
     }
-    match move_blocks(alloc, bits, &items, &spans) {
+    match move_ordered_blocks(alloc, bits, &items, &spans) {
         Ok(moved) => Ok(MovedCode {
             items,
             blocks: moved,
         }),
-        Err(MoveError::TooMany { count }) => Err(Status::TooMany { count }),
-        Err(MoveError::OldOrder { .. }) => unreachable!(),
-        Err(MoveError::Wraps { end }) => Err(Status::Wraps { end }),
-        Err(MoveError::TooFar { at, target }) => Err(Status::TooFar { at, target }),
-        Err(MoveError::Memory) => Err(Status::Memory),
+        Err(PlanError::Wraps { end }) => Err(Status::Wraps { end }),
+        Err(PlanError::TooFar { at, target }) => Err(Status::TooFar { at, target }),
+        Err(PlanError::Memory) => Err(Status::Memory),
     }
 }
 

@@ -1,5 +1,5 @@
 -- What is known of the block of a step once there is a place for it.
-use Rattle.std.proofs.Common.{◌≡◌, ℕ, zero, suc, ◌+◌, ◌-◌, ◌^◌, ◌≤◌, ◌<◌, List, length, ◌/◌, ◌*◌, arith, ap, refl, subst, Option, Some, None, Ok, Bool}
+use Rattle.std.proofs.Common.{◌≡◌, ℕ, zero, suc, ◌+◌, ◌-◌, ◌^◌, ◌≤◌, ◌<◌, List, length, arith, ap, refl, subst, Option, Some, None, Ok, Bool}
 use Rattle.std.specs.Prelude.{if◌then◌else◌}
 use Rattle.std.proofs.lemmas.Bool.{le-leb, le-ltb}
 use Rattle.x86_values.specs.declared.Bits.{Bits}

@@ -1,6 +1,10 @@
-use Rattle.std.proofs.Common.{ap, length, ◌∙◌}
-use Rattle.c_calls.proofs.MovedEntries.{starts_length, forms_length}
+use Rattle.std.proofs.Common.{ap, length, ◌∙◌, arith}
+use Rattle.c_calls.proofs.MovedEntries.{starts_length, forms_length, too_many}
 use Rattle.c_calls.proofs.moved.move_items.Goals as goal
+
+pub returns-then-items-gt-MOST_ITEMS : goal.returns-then-items-gt-MOST_ITEMS
+returns-then-items-gt-MOST_ITEMS c =
+    too_many c.args.targets c.args.bits c.args.items.now c.args.new _ (omega arith) (omega arith)
 
 pub entries_of-requires-clause-starts : goal.entries_of-requires-clause-starts
 entries_of-requires-clause-starts c =

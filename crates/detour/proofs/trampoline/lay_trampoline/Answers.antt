@@ -28,8 +28,8 @@ plan_at-requires-clause-placed c =
     subst (λ (xs : List Placed). ArePlaced c.args.bits xs) (sym (c.deref-2.ensures.value ∙ c.in_ok-items.ensures))
     (block_placed c.laws_below.ensures c.args.bits c.args.ip c.args.taken.now.items.items c.requires.placed)
 
-pub move_by_plan-requires : goal.move_by_plan-requires
-move_by_plan-requires c =
+pub move_planned-requires : goal.move_planned-requires
+move_planned-requires c =
     ap (λ (p : BlockPlan). length p.items) c.in_ok-plan.ensures
     ∙ (plan_count c.laws_below.ensures c.args.bits c.deref-2.result.now c.moved_count-count.result c.args.place c.args.start
     ∙ ap length (c.deref-2.ensures.value ∙ sym c.deref-3.ensures.value))
