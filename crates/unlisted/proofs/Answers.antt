@@ -1,5 +1,5 @@
 -- The answers for some bytes, and what holds of all of them.
-use Rattle.std.proofs.Common.{◌≡◌, ℕ, ◌<◌, ◌≤◌, List, ◌++◌, length, take, Result, Ok, Err, refl, ap, sym, ◌∙◌, subst, arith}
+use Rattle.std.proofs.Common.{◌≡◌, ℕ, ◌<◌, ◌≤◌, List, ◌++◌, length, take, Result, Ok, Err, refl, sym, ◌∙◌, subst, arith}
 use Rattle.std.proofs.lemmas.List.{take-append-le, take-take}
 use Rattle.x86_values.specs.declared.Bits.{Bits}
 use Rattle.x86_values.specs.declared.Decoded.{Decoded}
@@ -9,9 +9,9 @@ use Rattle.unlisted.specs.declared.Shape.{Shape}
 use Rattle.unlisted.specs.declared.MeasureError.{MeasureError}
 use Rattle.unlisted.specs.declared.MeasureError.TheVariants.{Ended, Unknown}
 use Rattle.unlisted.specs.Encodings.{format_of}
-use Rattle.unlisted.specs.Measured.{ReadsNothing, IsNeverRead, IsMeasuredAs, IsCut, IsUnknown, IsMeasured}
-use Rattle.unlisted.proofs.Growing.{format-facts, format-stays, format-alone, format-cut, format-ended}
-use Rattle.unlisted.proofs.Reads.{reads-more, nothing-behind}
+use Rattle.unlisted.specs.Measured.{IsNeverRead, IsMeasuredAs, IsCut, IsUnknown, IsMeasured}
+use Rattle.unlisted.proofs.Growing.{format-facts, format-stays, format-alone, format-cut}
+use Rattle.unlisted.proofs.Unread.{reads-more, nothing-behind}
 
 -- bytes have at most one answer
 pub one-answer : (bits : Bits) (bytes : List ℕ) (answer other : Result Shape MeasureError) → IsMeasured bits bytes answer → IsMeasured bits bytes other → answer ≡ other
@@ -57,26 +57,12 @@ cut-inside bits bytes more s h few = record {
 
 -- ---- what is not measured
 
--- what no format has is unknown
-pub unknown-format : (bits : Bits) (bytes : List ℕ) → format_of bits bytes ≡ Err Unknown → IsUnknown bits bytes
-unknown-format bits bytes e = record {
-  not_measured = λ s h. (let k = h.format in cc);
-  not_cut = λ h. (let k = h.format in cc);
-}
-
--- bytes that are read and end inside a format are unknown
-pub read-format : (bits : Bits) (bytes : List ℕ) → format_of bits bytes ≡ Err Ended → (ReadsNothing bits bytes → ⊥) → IsUnknown bits bytes
-read-format bits bytes e no = record {
-  not_measured = λ s h. (let k = h.format in cc);
-  not_cut = λ h. no h.unread;
-}
-
 -- a shape whose bytes the table has something for is unknown
 pub listed-format : (bits : Bits) (bytes : List ℕ) (s : Shape) → format_of bits bytes ≡ Ok s → (IsNeverRead bits (take s.len bytes) → ⊥) → IsUnknown bits bytes
-listed-format bits bytes s e no = record {
-  not_measured = λ t h. (let same : t ≡ s = same-shape t s (sym h.format ∙ e) in no (subst (λ (x : Shape). IsNeverRead bits (take x.len bytes)) same h.unread));
+listed-format bits bytes s e listed = record {
+  not_measured = λ t h. (let same : t ≡ s = same-shape t s _ h.format e in listed (subst (λ (x : Shape). IsNeverRead bits (take x.len bytes)) same h.unread));
   not_cut = λ h. (let k = h.format in cc);
 }
   where
-    same-shape : (t u : Shape) → Ok {E = MeasureError} t ≡ Ok u → t ≡ u
-    same-shape t u h = cc
+    same-shape : (t u : Shape) (answer : Result Shape MeasureError) → answer ≡ Ok t → answer ≡ Ok u → t ≡ u
+    same-shape t u answer h k = cc

@@ -1,13 +1,12 @@
 -- What more bytes make of an encoding.
-use Rattle.std.proofs.Common.{◌≡◌, ℕ, zero, suc, if◌then◌else◌, ◌+◌, ◌-◌, ◌<◌, ◌≤◌, Bool, true, false, nat_le, List, [], ◌∷◌, ◌++◌, length, take, drop, Option, Some, None, Result, Ok, Err, refl, ap, sym, ◌∙◌, subst, arith, length-drop, length-append, take-append-drop}
+use Rattle.std.proofs.Common.{◌≡◌, ℕ, zero, suc, if◌then◌else◌, ◌+◌, ◌-◌, ◌<◌, ◌≤◌, Bool, true, false, nat_le, List, [], ◌∷◌, ◌++◌, length, take, drop, Option, Some, None, Result, Ok, Err, refl, ap, sym, ◌∙◌, subst, arith, length-append, take-append-drop}
 use Rattle.std.proofs.lemmas.Bool.{leb-true, leb-false}
-use Rattle.std.proofs.lemmas.List.{take-append-le, take_all, take-take, length-take-le, drop_all, length-take}
+use Rattle.std.proofs.lemmas.List.{take-append-le, take_all, take-take, length-take-le, length-take}
 use Rattle.x86_values.specs.declared.Bits.{Bits}
 use Rattle.instruction_parts.specs.Counting.{is_prefix}
 use Rattle.instruction_parts.specs.Front.{prefix_run}
 use Rattle.unlisted.specs.declared.Kind.{Kind}
 use Rattle.unlisted.specs.declared.Reference.{Reference}
-use Rattle.unlisted.specs.declared.Relative.{Relative}
 use Rattle.unlisted.specs.declared.Shape.{Shape}
 use Rattle.unlisted.specs.declared.MeasureError.{MeasureError}
 use Rattle.unlisted.specs.declared.MeasureError.TheVariants.{Ended, Unknown}
@@ -188,17 +187,27 @@ in-grows bits bytes more = in-grows-at bits bytes more _ refl
 
 -- ---- whole instructions
 
-sized-from : (used given whole : ℕ) (answer : Result Shape MeasureError) → used + given ≡ whole → IsBeyond used answer → IsSized used given answer → IsSized 1 (whole - 1) answer
-sized-from used given whole (Ok s) e beyond h = record { least = omega (arith, beyond); most = omega (arith, h.most, beyond); inside = h.inside }
-sized-from used given whole (Err x) e beyond h = tt
+-- a shape has some bytes, no more than are given, and its number stands inside
+record Whole (given : ℕ) (s : Shape) : Type 0 where
+  some : 0 < s.len
+  most : s.len ≤ given
+  inside : StandsInside s.len s.relative
 
-in-sized : (bits : Bits) (bytes : List ℕ) → IsSized 1 (length bytes - 1) (found_in bits bytes)
+abbrev IsWhole : ℕ → Result Shape MeasureError → Type 0
+IsWhole given (Ok s) = Whole given s
+IsWhole given (Err e) = Unit {0}
+
+whole-from : (used given whole : ℕ) (answer : Result Shape MeasureError) → used + given ≡ whole → IsBeyond used answer → IsSized used given answer → IsWhole whole answer
+whole-from used given whole (Ok s) e beyond h = record { some = omega (arith, beyond); most = omega (arith, h.most); inside = h.inside }
+whole-from used given whole (Err x) e beyond h = tt
+
+in-whole : (bits : Bits) (bytes : List ℕ) → IsWhole (length bytes) (found_in bits bytes)
 unfolding found_in found_behind front_step
-in-sized bits bytes =
+in-whole bits bytes =
     let parts = run-parts bits bytes in
     let n = length (prefix_run bits bytes) in
     let behind = drop n bytes in
-    sized-from n (length behind) (length bytes) _ (sym parts.count) (byte-beyond _ n behind) (found-sized _ n behind)
+    whole-from n (length behind) (length bytes) _ (sym parts.count) (byte-beyond _ n behind) (found-sized _ n behind)
 
 unknown-no-shape : (s : Shape) → Err Unknown ≡ Ok s → ⊥
 unknown-no-shape s h = cc
@@ -213,23 +222,23 @@ shape-of-15 given (Err Ended) s h = absurd (no-shape (nat_le 15 given) h)
     no-shape true h = cc
     no-shape false h = cc
 
+short-of-15 : (given : ℕ) (test : Bool) (answer : Result Shape MeasureError) → nat_le 15 given ≡ test → answer ≡ (if test then Err Unknown else Err Ended) → answer ≡ Err Ended → given < 15
+short-of-15 given true answer e h k = cc
+short-of-15 given false answer e h k = leb-false 15 given e
+
 ended-of-15 : (given : ℕ) (answer : Result Shape MeasureError) → within_15 given answer ≡ Err Ended → given < 15
 unfolding within_15
 ended-of-15 given (Ok t) h = cc
 ended-of-15 given (Err Unknown) h = cc
-ended-of-15 given (Err Ended) h = short (nat_le 15 given) refl h
-  where
-    short : (test : Bool) → nat_le 15 given ≡ test → (if test then Err Unknown else Err Ended) ≡ Err Ended → given < 15
-    short true e h = cc
-    short false e h = leb-false 15 given e
+ended-of-15 given (Err Ended) h = short-of-15 given (nat_le 15 given) (within_15 given (Err Ended)) refl refl h
 
 -- fewer than 15 bytes end where they end
 ended-below-15 : (given : ℕ) → given < 15 → within_15 given (Err Ended) ≡ Err Ended
 unfolding within_15
 ended-below-15 given h = let e : nat_le 15 given ≡ false = grind arith in rw e refl
 
-sized-shape : (given : ℕ) (answer : Result Shape MeasureError) (s : Shape) → answer ≡ Ok s → IsSized 1 (given - 1) answer → Sizes 1 (given - 1) s
-sized-shape given answer s e h = subst (λ (a : Result Shape MeasureError). IsSized 1 (given - 1) a) e h
+whole-shape : (given : ℕ) (answer : Result Shape MeasureError) (s : Shape) → answer ≡ Ok s → IsWhole given answer → Whole given s
+whole-shape given answer s e h = subst (λ (a : Result Shape MeasureError). IsWhole given a) e h
 
 -- ---- what a shape by the formats is
 
@@ -239,19 +248,19 @@ pub record FormatFacts (bits : Bits) (bytes : List ℕ) (s : Shape) : Type 0 whe
   pub short : s.len ≤ 15
   pub given : s.len ≤ length bytes
   pub inside : StandsInside s.len s.relative
-  pub found : found_in bits (take 15 bytes) ≡ Ok s
+  pub found_whole : found_in bits (take 15 bytes) ≡ Ok s
 
 pub format-facts : (bits : Bits) (bytes : List ℕ) (s : Shape) → format_of bits bytes ≡ Ok s → FormatFacts bits bytes s
 unfolding format_of
 format-facts bits bytes s h =
     let e = shape-of-15 (length bytes) (found_in bits (take 15 bytes)) s h in
-    let sizes = sized-shape (length (take 15 bytes)) _ s e (in-sized bits (take 15 bytes)) in
+    let sizes = whole-shape (length (take 15 bytes)) _ s e (in-whole bits (take 15 bytes)) in
     record {
-      some = omega (arith, sizes.least);
-      short = omega (arith, sizes.least, sizes.most, length-take 15 bytes);
-      given = omega (arith, sizes.least, sizes.most, length-take 15 bytes);
+      some = sizes.some;
+      short = omega (arith, sizes.most, length-take 15 bytes);
+      given = omega (arith, sizes.most, length-take 15 bytes);
       inside = sizes.inside;
-      found = e;
+      found_whole = e;
     }
 
 shape-grows : (given : ℕ) (before after : Result Shape MeasureError) (s : Shape) → before ≡ Ok s → Grows given before after → after ≡ Ok s
@@ -269,7 +278,7 @@ take-both (suc n) (b ∷ bytes) more =
     ap (λ xs. b ∷ xs) (take-both n bytes more) ∙ ap (λ (k : ℕ). b ∷ (take n bytes ++ take k more)) e
 
 -- the length of a shape, else 0
-len_of : Result Shape MeasureError → ℕ
+abbrev len_of : Result Shape MeasureError → ℕ
 len_of (Ok s) = s.len
 len_of (Err e) = 0
 
@@ -279,7 +288,7 @@ unfolding format_of
 format-stays bits bytes more s h =
     let facts = format-facts bits bytes s h in
     let grown = in-grows bits (take 15 bytes) (take (15 - length bytes) more) in
-    let after = shape-grows _ _ _ s facts.found grown in
+    let after = shape-grows _ _ _ s facts.found_whole grown in
     within-shape _ _ s (ap (found_in bits) (take-both 15 bytes more) ∙ after)
 
 -- the bytes of a shape alone give it
@@ -294,7 +303,7 @@ format-alone bits bytes s h =
     let rest = drop s.len (take 15 bytes) in
     let whole : own ++ rest ≡ take 15 bytes = ap (λ xs. xs ++ rest) (sym front) ∙ take-append-drop s.len (take 15 bytes) in
     let grown : Grows (length own) (found_in bits own) (found_in bits (own ++ rest)) = in-grows bits own rest in
-    let after : found_in bits (own ++ rest) ≡ Ok s = ap (found_in bits) whole ∙ facts.found in
+    let after : found_in bits (own ++ rest) ≡ Ok s = ap (found_in bits) whole ∙ facts.found_whole in
     within-shape _ _ s (ap (found_in bits) same ∙ same-shape _ _ (length own) (omega (arith, size)) grown after)
   where
     same-shape : (before after : Result Shape MeasureError) (given : ℕ) → s.len ≤ given → Grows given before after → after ≡ Ok s → before ≡ Ok s
@@ -313,7 +322,7 @@ format-cut bits bytes more s h few =
     let parted : take 15 (bytes ++ more) ≡ bytes ++ take (15 - length bytes) more =
     take-both 15 bytes more ∙ ap (λ xs. xs ++ take (15 - length bytes) more) all in
     let grown = in-grows bits bytes (take (15 - length bytes) more) in
-    let after : found_in bits (bytes ++ take (15 - length bytes) more) ≡ Ok s = ap (found_in bits) (sym parted) ∙ facts.found in
+    let after : found_in bits (bytes ++ take (15 - length bytes) more) ≡ Ok s = ap (found_in bits) (sym parted) ∙ facts.found_whole in
     ap (λ xs. within_15 (length bytes) (found_in bits xs)) all
     ∙ ap (within_15 (length bytes)) (cut _ _ (length bytes) few grown after)
     ∙ ended-below-15 (length bytes) short

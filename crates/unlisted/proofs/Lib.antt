@@ -1,3 +1,4 @@
 pub mod Growing
-pub mod Reads
+pub mod Lengths
+pub mod Unread
 pub mod Answers

@@ -2,7 +2,7 @@
 use Rattle.std.specs.Prelude.{ℕ, ◌/◌, ◌%◌, Bool, true, false, ◌&&◌, ◌||◌, not, ◌==◌, nat_le, if◌then◌else◌, List, Option, Some, None}
 use Rattle.x86_values.specs.declared.Bits.{Bits}
 use Rattle.instruction_parts.specs.Counting.{is_16, is_64, has_66, counting_repeat, counting_rex, rex_bit, bit_of}
-use Rattle.instruction_parts.specs.Front.{top_two_set as top_bits_set}
+use Rattle.instruction_parts.specs.Front.{top_two_set}
 use Rattle.row_fit.specs.Fits.{is_no_repeat, is_repeat_f2}
 use Rattle.unlisted.specs.declared.Kind.{Kind}
 use Rattle.unlisted.specs.declared.Kind.TheVariants as kinds
@@ -15,10 +15,6 @@ use Rattle.unlisted.specs.declared.formats.Lead.TheVariants as leads
 -- from the least number to the most
 unfoldable pub within : ℕ → ℕ → ℕ → Bool
 within least most b = nat_le least b && nat_le b most
-
--- the top two bits are 11, as in a ModRM byte that names a register
-abbrev pub top_two_set : ℕ → Bool
-top_two_set b = top_bits_set b
 
 -- the bytes of a word or doubleword of the operand size: REX.W outranks 66, and 66 gives the other of 16 and 32 (2.2.1.2)
 unfoldable pub word_bytes : Bits → List ℕ → ℕ

@@ -1,7 +1,7 @@
 //! The encodings without a row, read part by part. Each function goes on behind `used` bytes of an instruction.
 
-ghost use Rattle.std.specs.Prelude.{◌≡◌, ◌≤◌, ◌+◌, ◌<◌, length};
-ghost use Rattle.instruction_parts.specs.Front.{prefix_run};
+ghost use Rattle.std.specs.Prelude.{◌≡◌, ◌≤◌, ◌+◌, length, take_while};
+ghost use Rattle.instruction_parts.specs.Counting.{is_prefix};
 ghost use Rattle.row_fit.specs.Fits.{displacement_bytes};
 ghost use Rattle.unlisted.specs.Encodings as spec;
 ghost use Rattle.unlisted.specs.Formats.{legacy};
@@ -69,7 +69,11 @@ fn memory_reference(bits: Bits, asize: Bits, m: ModRm) -> Option<Reference>
     ensures { result ≡ spec.memory_reference bits asize m }
 {
     if is_64(bits) && m.mode3 == 0 && m.rm == 5 {
-        Some(if is_64(asize) { Reference::Rip } else { Reference::Eip })
+        Some(if is_64(asize) {
+            Reference::Rip
+        } else {
+            Reference::Eip
+        })
     } else {
         None
     }
@@ -118,8 +122,15 @@ fn read_address(
     if needs_sib(asize, m) {
         match bytes.split_first() {
             None => Err(MeasureError::Ended),
-            Some((b, rest)) =>
-                read_displacement(bits, asize, tail, m, Some(sib_of_byte(*b)), used + 1, rest),
+            Some((b, rest)) => read_displacement(
+                bits,
+                asize,
+                tail,
+                m,
+                Some(sib_of_byte(*b)),
+                used + 1,
+                rest,
+            ),
         }
     } else {
         read_displacement(bits, asize, tail, m, None, used, bytes)
@@ -327,12 +338,7 @@ fn read_any_opcode(
 
 /// Behind 0F.
 #[tactic(auto, unfolding(crate::specs::Encodings::found, crate::specs::Encodings::escape_step))]
-fn read_escape(
-    bits: Bits,
-    prefixes: &[u8],
-    used: u8,
-    bytes: &[u8],
-) -> Result<Shape, MeasureError>
+fn read_escape(bits: Bits, prefixes: &[u8], used: u8, bytes: &[u8]) -> Result<Shape, MeasureError>
     requires { used + length bytes.now ≤ 15 }
     ensures { result ≡ spec.found (spec.Byte (spec.escape_step bits prefixes.now)) used bytes.now }
 {
@@ -373,12 +379,7 @@ fn read_plain(
 
 /// Behind the prefixes.
 #[tactic(auto, unfolding(crate::specs::Encodings::found, crate::specs::Encodings::front_step, crate::specs::Encodings::lead_step))]
-fn read_front(
-    bits: Bits,
-    prefixes: &[u8],
-    used: u8,
-    bytes: &[u8],
-) -> Result<Shape, MeasureError>
+fn read_front(bits: Bits, prefixes: &[u8], used: u8, bytes: &[u8]) -> Result<Shape, MeasureError>
     requires { used + length bytes.now ≤ 15 }
     ensures { result ≡ spec.found (spec.front_step bits prefixes.now) used bytes.now }
 {
@@ -393,7 +394,7 @@ fn read_front(
 
 /// The length of the run of prefix bytes at the front.
 fn run_len(bits: Bits, bytes: &[u8]) -> usize
-    ensures { result ≡ length (prefix_run bits bytes.now) }
+    ensures { result ≡ length (take_while (is_prefix bits) bytes.now) }
 {
     bytes.iter().take_while(|b| is_prefix(bits, **b)).count()
 }

@@ -1,6 +1,7 @@
 //! What follows an opcode byte, by the formats alone (Intel SDM volume 2, 2.3, 2.7 and appendix A; AMD64 manual volume 3, chapter 1 and appendix A).
 
 ghost use Rattle.std.specs.Prelude.{◌≡◌, ◌≤◌};
+ghost use Rattle.instruction_parts.specs.Front as front;
 ghost use Rattle.unlisted.specs.Formats as spec;
 
 use crate::Kind;
@@ -52,7 +53,7 @@ fn within(least: u8, most: u8, b: u8) -> bool
 
 /// Whether the top two bits of a byte are 11.
 fn top_two_set(b: u8) -> bool
-    ensures { result ≡ spec.top_two_set b }
+    ensures { result ≡ front.top_two_set b }
 {
     b / 64 == 3
 }
@@ -273,10 +274,9 @@ pub(crate) fn stands(bits: Bits, lead: Lead, p: u8) -> bool
     ensures { result ≡ spec.stands bits lead p }
 {
     match lead {
-        Lead::Evex =>
-            (is_64(bits) || top_two_set(p))
-                && !bit_of_byte(3, p)
-                && (within(1, 3, p % 8) || within(5, 6, p % 8)),
+        Lead::Evex => (is_64(bits) || top_two_set(p))
+            && !bit_of_byte(3, p)
+            && (within(1, 3, p % 8) || within(5, 6, p % 8)),
         Lead::Vex2 => is_64(bits) || top_two_set(p),
         Lead::Vex3 => (is_64(bits) || top_two_set(p)) && within(1, 3, p % 32),
         Lead::Xop => within(8, 10, p % 32),
@@ -329,7 +329,11 @@ fn vex_tail(map: u8, opcode: u8) -> Tail
         }
     } else {
         Tail {
-            kind: if is_mask(map, opcode) { Kind::Mask } else { Kind::Vex },
+            kind: if is_mask(map, opcode) {
+                Kind::Mask
+            } else {
+                Kind::Vex
+            },
             modrm: ModRmBytes::Any,
             is_branch: false,
             immediates: vector_immediates(map, opcode),

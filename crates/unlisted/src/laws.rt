@@ -7,6 +7,7 @@ ghost use Rattle.row_relation.specs.Spells.{Read};
 ghost use Rattle.opcode_rows.specs.Reading.{IsRead};
 ghost use Rattle.unlisted.specs.declared.Shape.{Shape};
 ghost use Rattle.unlisted.specs.declared.MeasureError.{MeasureError};
+ghost use Rattle.unlisted.specs.declared.MeasureError.TheVariants.{Ended};
 ghost use Rattle.unlisted.specs.Measured.{IsMeasured};
 
 /// Some bytes have at most one answer.
@@ -40,11 +41,11 @@ pub fn its_own_bytes_give_the_shape()
 pub fn ended_inside_an_instruction()
     ensures { (bits : Bits) (bytes more : List ℕ) (shape : Shape)
         → IsMeasured bits (bytes ++ more) (Ok shape) → length bytes < shape.len
-        → IsMeasured bits bytes (Err MeasureError.Ended) }
+        → IsMeasured bits bytes (Err Ended) }
 {}
 
 /// The answer `Ended` is only for fewer than 15 bytes: with 15 it has become a shape or `Unknown`.
 pub fn fifteen_bytes_are_enough()
     ensures { (bits : Bits) (bytes : List ℕ)
-        → IsMeasured bits bytes (Err MeasureError.Ended) → length bytes < 15 }
+        → IsMeasured bits bytes (Err Ended) → length bytes < 15 }
 {}

@@ -1,5 +1,5 @@
 -- What the table reads of some bytes, at any address and with more bytes.
-use Rattle.std.proofs.Common.{◌≡◌, inl, inr, ◌⊎◌, ℕ, ◌+◌, ◌<◌, ◌≤◌, List, ◌++◌, length, take, drop, Some, Err, slice_get, refl, ap, sym, ◌∙◌, subst, arith, length-append, length-drop, take-append-drop}
+use Rattle.std.proofs.Common.{◌≡◌, inl, inr, ◌⊎◌, ℕ, ◌<◌, ◌≤◌, List, ◌++◌, length, take, drop, Some, Err, slice_get, refl, ap, sym, ◌∙◌, subst, arith, length-append, length-drop, take-append-drop}
 use Rattle.std.proofs.lemmas.Bool.{cases_order}
 use Rattle.std.proofs.lemmas.List.{take-append-le, take-take, length-take-le, length-take}
 use Rattle.x86_values.specs.declared.Bits.{Bits}
@@ -10,7 +10,7 @@ use Rattle.x86_values.specs.Wrapping.{modulo_width}
 use Rattle.instruction_parts.specs.declared.row_types.Row.{Row}
 use Rattle.instruction_parts.specs.declared.spelling.Spelling.{Spelling}
 use Rattle.row_meaning.specs.Meaning.{meaning, instr_of}
-use Rattle.row_relation.specs.Spells.{Reading, Read, TooShort, Invalid, IsSpelledBy, SpellsUnbounded, ReadsAs, BeginsSpelling, CanGoOn, IsInvalid}
+use Rattle.row_relation.specs.Spells.{Read, TooShort, Invalid, IsSpelledBy, SpellsUnbounded, ReadsAs, BeginsSpelling, CanGoOn, IsInvalid}
 use Rattle.opcode_rows.specs.Table.{table}
 use Rattle.opcode_rows.specs.Reading.{IsRead}
 use Rattle.decoder.specs.declared.DecodeError.{DecodeError}
@@ -59,7 +59,6 @@ invalid-elsewhere bits a b bytes h = record {
 pub never-read : (bits : Bits) (ip : ℕ) (bytes : List ℕ) → IsRead bits ip bytes Invalid → IsNeverRead bits bytes
 never-read bits ip bytes h = λ b. invalid-elsewhere bits (modulo_width bits ip) (modulo_width bits b) bytes h
 
-
 -- where no instruction is read at one address, none is at another
 pub reads-nothing : (bits : Bits) (ip : ℕ) (bytes : List ℕ) → ((d : Decoded) → IsRead bits ip bytes (Read d) → ⊥) → ReadsNothing bits bytes
 reads-nothing bits ip bytes h = λ b d r.
@@ -95,8 +94,7 @@ begun-by bits ip bytes m d lt h =
     let size : length whole ≡ n = length-take-le n bytes given in
     let front : take m whole ≡ take m bytes = take-take m n bytes (omega arith) in
     let more = drop m whole in
-    let joined : whole ≡ take m bytes ++ more = sym (take-append-drop m whole) ∙ ap (λ xs. xs ++ more) front in
-    (
+    let joined : whole ≡ take m bytes ++ more = sym (take-append-drop m whole) ∙ ap (λ xs. xs ++ more) front in (
       more,
       omega (arith, length-drop m whole),
       (d.instr, subst (λ (xs : List ℕ). SpellsUnbounded table bits (modulo_width bits ip) xs d.instr) joined h.1.1),
@@ -115,6 +113,7 @@ nothing-behind bits ip bytes m d never h = elim (le-or-lt d.len m) [
     by_order : {a b : ℕ} → (a < b) ⊎ (b < a) → (a ≤ b) ⊎ (b < a)
     by_order (inl lt) = inl (omega arith)
     by_order (inr gt) = inr gt
+
     le-or-lt : (a b : ℕ) → (a ≤ b) ⊎ (b < a)
     le-or-lt a b = elim (cases_order a b) [ inl same ↦ inl (omega arith) | inr apart ↦ by_order apart ]
 
@@ -128,3 +127,16 @@ error-reads-nothing bits ip bytes InvalidError h = reads-nothing bits ip bytes (
 -- bytes that are too short are not never read
 pub short-is-read : (bits : Bits) (ip : ℕ) (bytes : List ℕ) → IsRead bits ip bytes TooShort → IsNeverRead bits bytes → ⊥
 short-is-read bits ip bytes h never = (never ip).ends_here h.is_short h.can_go_on
+
+-- after TooShort the bytes are not never read
+pub short-answer : (bits : Bits) (ip : ℕ) (bytes : List ℕ) (e : DecodeError) → e ≡ TooShortError → IsRead bits ip bytes (reading_of (Err e)) → IsNeverRead bits bytes → ⊥
+short-answer bits ip bytes TooShortError is h never = short-is-read bits ip bytes h never
+short-answer bits ip bytes InvalidError is h never = cc
+
+-- after Invalid they are never read
+pub invalid-answer : (bits : Bits) (ip : ℕ) (bytes : List ℕ) (e : DecodeError) → e ≡ InvalidError → IsRead bits ip bytes (reading_of (Err e)) → IsNeverRead bits bytes
+invalid-answer bits ip bytes TooShortError is h = absurd (no is)
+  where
+    no : TooShortError ≡ InvalidError → ⊥
+    no h = cc
+invalid-answer bits ip bytes InvalidError is h = never-read bits ip bytes h
