@@ -250,6 +250,7 @@ pub record FormatFacts (bits : Bits) (bytes : List ℕ) (s : Shape) : Type 0 whe
   pub inside : StandsInside s.len s.relative
   pub found_whole : found_in bits (take 15 bytes) ≡ Ok s
 
+-- what a format gives has these facts
 pub format-facts : (bits : Bits) (bytes : List ℕ) (s : Shape) → format_of bits bytes ≡ Ok s → FormatFacts bits bytes s
 unfolding format_of
 format-facts bits bytes s h =
