@@ -49,6 +49,10 @@ def sample(chance, kind, bits):
         body = bytes([chance.choice(ONE_BYTE)])
         if body[0] in (0xC6, 0xC7):
             body += b"\xf8"
+        elif body[0] != 0xD6:
+            modrm = chance.randrange(256)
+            reg = 1 if body[0] in (0xF6, 0xF7) else 6
+            body += bytes([0xC0 | modrm & 0x1F if 0xD8 <= body[0] <= 0xDF else modrm & 0xC7 | reg << 3])
     return (prefixes + body + rest)[:16]
 
 
