@@ -43,7 +43,7 @@ extern "C" {
 /* ---- versions ---------------------------------------------------------------------------------------------- */
 
 /* The interface that this header declares. It rises when a struct, a number or a function changes. */
-#define FEDDURZAI_INTERFACE 4
+#define FEDDURZAI_INTERFACE 5
 
 /*
  * Returns the interface of the linked library. If it is not FEDDURZAI_INTERFACE, the library does not match this
@@ -300,6 +300,52 @@ typedef struct feddurzai_byte_offsets {
  *     printf("displacement: %d byte at %d\n", parts.displacement.len, parts.displacement.at);    // 1 byte at 4
  */
 int32_t feddurzai_offsets(uint32_t bits, const uint8_t *bytes, size_t len, feddurzai_byte_offsets *parts);
+
+/* The kind of an instruction that the opcode table leaves out: a number of feddurzai_shape.kind. */
+enum {
+    FEDDURZAI_KIND_EVEX = 0,
+    FEDDURZAI_KIND_MASK = 1,            /* a VEX with an opcode byte of the mask registers */
+    FEDDURZAI_KIND_VEX = 2,             /* any other VEX */
+    FEDDURZAI_KIND_XOP = 3,
+    FEDDURZAI_KIND_NOW3D = 4,           /* 3DNow! */
+    FEDDURZAI_KIND_LEGACY = 5
+};
+
+/* What the relative number of such an instruction refers to: a number of feddurzai_shape.reference. */
+enum {
+    FEDDURZAI_REFERENCE_NONE = 0,       /* there is no such number; `distance`, `at` and `size` are 0 */
+    FEDDURZAI_REFERENCE_RIP = 1,        /* memory at RIP: 64 bits */
+    FEDDURZAI_REFERENCE_EIP = 2,        /* memory at EIP, in 64-bit mode after a 67: 32 bits */
+    FEDDURZAI_REFERENCE_BRANCH = 3      /* where XBEGIN continues after an abort: the bits of the mode */
+};
+
+/*
+ * The shape of an instruction that the opcode table leaves out. The address that its relative number refers to is the
+ * address after the instruction plus `distance`, modulo 2 to the bits of `reference`.
+ */
+typedef struct feddurzai_shape {
+    int64_t distance;   /* the number, sign-extended */
+    uint8_t kind;       /* FEDDURZAI_KIND_EVEX .. */
+    uint8_t reference;  /* FEDDURZAI_REFERENCE_NONE .. */
+    uint8_t at;         /* the offset of the number in the instruction */
+    uint8_t size;       /* how many bytes the number has: 4, or 2 in an XBEGIN with 16-bit operands */
+} feddurzai_shape;
+
+/*
+ * Measures the instruction at the front of `bytes` if the opcode table leaves it out, by its encoding format alone:
+ * EVEX, VEX, XOP, 3DNow!, and some legacy opcodes (SDM 2.3, 2.7, appendix A; docs/unlisted.md lists them). Whether a
+ * processor has the instruction is not checked. No such instruction changes where control goes, except XBEGIN. `bits`,
+ * `bytes` and `len` are as in feddurzai_decode; no address is needed. `shape` receives the shape.
+ *
+ * Returns the length of the instruction, 1 to 15, or FEDDURZAI_BAD_MODE, _TOO_SHORT (fewer than 15 bytes, which end
+ * inside an encoding that is measured), _INVALID (no such encoding begins there, or an instruction of the table does);
+ * then *shape is unchanged.
+ *
+ *     // vpxord zmm0, zmm0, [rip+0x10]
+ *     len = feddurzai_measure(64, (const uint8_t *)"\x62\xf1\x7d\x48\xef\x05\x10\x00\x00\x00", 10, &shape);
+ *     // len is 10, shape.reference FEDDURZAI_REFERENCE_RIP, shape.at 6 and shape.distance 16
+ */
+int32_t feddurzai_measure(uint32_t bits, const uint8_t *bytes, size_t len, feddurzai_shape *shape);
 
 /* The `code` of an item of feddurzai_decode_many at which no instruction begins. No row has these codes. */
 enum {
@@ -1329,6 +1375,11 @@ static inline int32_t feddurzai_checked_offsets(uint32_t bits, const uint8_t *by
     return feddurzai_is_null(bytes, len) || parts == NULL ? FEDDURZAI_NULL : feddurzai_offsets(bits, bytes, len, parts);
 }
 
+static inline int32_t feddurzai_checked_measure(uint32_t bits, const uint8_t *bytes, size_t len, feddurzai_shape *shape)
+{
+    return feddurzai_is_null(bytes, len) || shape == NULL ? FEDDURZAI_NULL : feddurzai_measure(bits, bytes, len, shape);
+}
+
 /* instr may be NULL: then the instruction is not returned */
 static inline int32_t feddurzai_checked_line(uint32_t bits, uint32_t syntax, uint64_t ip, const uint8_t *bytes, size_t len,
     feddurzai_instr *instr, char *text, size_t room)
@@ -1566,6 +1617,7 @@ static inline int32_t feddurzai_checked_detour(uint32_t bits, uint64_t ip, const
 #define feddurzai_decode feddurzai_checked_decode
 #define feddurzai_decode_many feddurzai_checked_decode_many
 #define feddurzai_offsets feddurzai_checked_offsets
+#define feddurzai_measure feddurzai_checked_measure
 #define feddurzai_line feddurzai_checked_line
 #define feddurzai_line_text feddurzai_checked_line_text
 #define feddurzai_text feddurzai_checked_text

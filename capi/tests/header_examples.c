@@ -13,6 +13,7 @@
 /* the arguments of the examples, fresh for each */
 static feddurzai_instr instr, instrs[16];
 static feddurzai_byte_offsets parts;
+static feddurzai_shape shape;
 static feddurzai_about about;
 static feddurzai_touched touched;
 static feddurzai_moved map[4];
@@ -84,6 +85,14 @@ static void decoded(void)
     CHECK(len, 5);
     CHECK(parts.displacement.len, 1);
     CHECK(parts.displacement.at, 4);
+
+    // vpxord zmm0, zmm0, [rip+0x10]
+    len = feddurzai_measure(64, (const uint8_t *)"\x62\xf1\x7d\x48\xef\x05\x10\x00\x00\x00", 10, &shape);
+    // len is 10, shape.reference FEDDURZAI_REFERENCE_RIP, shape.at 6 and shape.distance 16
+    CHECK(len, 10);
+    CHECK(shape.kind << 8 | shape.reference, FEDDURZAI_KIND_EVEX << 8 | FEDDURZAI_REFERENCE_RIP);
+    CHECK(shape.at << 8 | shape.size, 6 << 8 | 4);
+    CHECK(shape.distance, 16);
 
     len = feddurzai_text(64, FEDDURZAI_ATT, &instr, text, sizeof text);     // 21: movq %rbx, 0x10(%rsp)
     CHECK(len, 21);

@@ -24,6 +24,7 @@ enum { SPARE = 16 };
 /* the structs of the calls, each filled with 0xaa where no call wrote */
 static feddurzai_instr instr, unread;
 static feddurzai_byte_offsets parts;
+static feddurzai_shape shape;
 static feddurzai_about about;
 static feddurzai_touched touched;
 static feddurzai_move_report report;
@@ -98,6 +99,9 @@ static void check_nulls(void)
     CHECK(feddurzai_offsets(64, NULL, 4, &parts), FEDDURZAI_NULL);
     CHECK(feddurzai_offsets(64, code, 4, NULL), FEDDURZAI_NULL);
     CHECK(feddurzai_offsets(64, NULL, 0, NULL), FEDDURZAI_NULL);
+    CHECK(feddurzai_measure(64, NULL, 4, &shape), FEDDURZAI_NULL);
+    CHECK(feddurzai_measure(64, code, 4, NULL), FEDDURZAI_NULL);
+    CHECK(feddurzai_measure(64, NULL, 0, NULL), FEDDURZAI_NULL);
     CHECK(feddurzai_line(64, FEDDURZAI_INTEL, 0, NULL, 4, &unread, text, sizeof text), FEDDURZAI_NULL);
     CHECK(feddurzai_line(64, FEDDURZAI_INTEL, 0, NULL, 4, NULL, text, sizeof text), FEDDURZAI_NULL);
     CHECK(feddurzai_line(64, FEDDURZAI_INTEL, 0, code, 4, &unread, NULL, sizeof text), FEDDURZAI_NULL);
@@ -229,6 +233,7 @@ static void check_empty(void)
     fill();
     CHECK(feddurzai_decode(64, 0, NULL, 0, &unread), FEDDURZAI_TOO_SHORT);
     CHECK(feddurzai_offsets(64, NULL, 0, &parts), FEDDURZAI_TOO_SHORT);
+    CHECK(feddurzai_measure(64, NULL, 0, &shape), FEDDURZAI_TOO_SHORT);
     CHECK(feddurzai_line(64, FEDDURZAI_INTEL, 0, NULL, 0, &unread, NULL, 0), FEDDURZAI_TOO_SHORT);
     CHECK(feddurzai_line(64, FEDDURZAI_INTEL, 0, mov, 5, NULL, NULL, 0), FEDDURZAI_NO_ROOM);
     CHECK(feddurzai_line_text(64, FEDDURZAI_INTEL, 0, mov, 5, NULL, 0), FEDDURZAI_NO_ROOM);
@@ -295,6 +300,7 @@ static void check_zeros(void)
     CHECK(feddurzai_decode(0, 0, NULL, 0, &unread), FEDDURZAI_BAD_MODE);
     CHECK(feddurzai_decode_many(0, 0, NULL, 0, NULL, 0, &count), FEDDURZAI_BAD_MODE);
     CHECK(feddurzai_offsets(0, NULL, 0, &parts), FEDDURZAI_BAD_MODE);
+    CHECK(feddurzai_measure(0, NULL, 0, &shape), FEDDURZAI_BAD_MODE);
     CHECK(feddurzai_line(0, 0, 0, NULL, 0, NULL, NULL, 0), FEDDURZAI_BAD_MODE);
     CHECK(feddurzai_line_text(0, 0, 0, NULL, 0, NULL, 0), FEDDURZAI_BAD_MODE);
     CHECK(feddurzai_text(0, 0, &zeros, NULL, 0), FEDDURZAI_BAD_MODE);

@@ -13,6 +13,8 @@
 returns its bytes. `move` relocates code, `flow` follows control, `detour` makes both parts of a hook, and `StepSlots` makes slots for displaced
 single stepping. `Code` has the codes of common instructions.
 
+`measure` returns the length of an instruction that the opcode table leaves out, such as one of AVX-512.
+
 `bits`, the mode, is 16, 32 or 64. Addresses are 0 to 2**64 - 1. A number out of range raises ValueError, and a value of another type
 TypeError, before the library is called. If the library refuses a call, it raises `Refusal`, whose `reason` says why. Enumerations print their
 names: `str(Flow.NEXT)` is `Flow.NEXT`. The functions keep no state, so several threads may call them.
@@ -63,12 +65,14 @@ from ._numbers import (
     Jump,
     OperandKind,
     Reason,
+    Reference,
     RegClass,
     Repeat,
     Segment,
     Start,
     Style,
     Touch,
+    UnlistedKind,
 )
 from ._offsets import Offsets, Part, offsets
 from ._operands import Far, Immediate, Memory, Near, Operand, Register, register, registers
@@ -76,6 +80,7 @@ from ._refusal import BlocksReport, DetourReport, InvalidCode, MoveReport, Refus
 from ._region import Live, Region
 from ._steps import Step, StepSlot, StepSlots, step, step_len
 from ._info import About, Use
+from ._unlisted import Shape, Unlisted, measure
 
 __all__ = [
     "About",
@@ -117,6 +122,7 @@ __all__ = [
     "Part",
     "Reached",
     "Reason",
+    "Reference",
     "Refusal",
     "RegClass",
     "Region",
@@ -126,6 +132,7 @@ __all__ = [
     "Rest",
     "RowOperand",
     "Segment",
+    "Shape",
     "Start",
     "Step",
     "StepReport",
@@ -134,6 +141,8 @@ __all__ = [
     "Style",
     "TooShort",
     "Touch",
+    "Unlisted",
+    "UnlistedKind",
     "Use",
     "assemble",
     "code_of",
@@ -148,6 +157,7 @@ __all__ = [
     "iterate",
     "jump",
     "line",
+    "measure",
     "move",
     "move_blocks",
     "move_outside",

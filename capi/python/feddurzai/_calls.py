@@ -11,6 +11,7 @@ from ._items import HIGH_AT, LEN_AT, LOW_AT, SIZE, BadByte, Instr, Item, Rest
 from ._numbers import Access, DetourForm, Flow, Form, Jump, Reason, Start, Style
 from ._refusal import DetourReport, MoveReport, refusal_of, taken
 from ._info import About, encode_of, info_of, name_of, text_of
+from ._unlisted import measured_item
 
 _InstrRoom = _native.room_of(SIZE)
 # how many instructions one call decodes: few at first, because a caller may stop
@@ -83,11 +84,12 @@ def line(bits: int, ip: int, code: Buffer, syntax: int = Style.INTEL, at: int = 
     return _read(bits, address & (1 << bits) - 1, window[:length], room.raw), str(letters.value, "ascii")
 
 
-def iterate(bits: int, ip: int, code: Buffer) -> Iterator[Item]:
+def iterate(bits: int, ip: int, code: Buffer, *, unlisted: bool = False) -> Iterator[Item]:
     """Iterates over the instructions of `code`, whose first byte has the address `ip`.
 
     Each item is an `Instr`, a `BadByte` or a `Rest`. A byte with which no instruction begins is a `BadByte`, and the next item begins after
-    it. If the bytes end before an instruction does, the bytes that are left are one `Rest`, the last item. Raises Refusal with BAD_MODE.
+    it. If the bytes end before an instruction does, the bytes that are left are one `Rest`, the last item. With `unlisted`, an instruction that
+    `measure` measures is an `Unlisted`, and the next item begins after it. Raises Refusal with BAD_MODE.
 
     >>> for item in iterate(64, 0x1000, bytes.fromhex("4883ec08 06 c3 4883c4")):
     ...     print(hex(item.address), item)
@@ -95,16 +97,18 @@ def iterate(bits: int, ip: int, code: Buffer) -> Iterator[Item]:
     0x1004 (bad)
     0x1005 ret
     0x1006 (the bytes end here)
+    >>> [str(item) for item in iterate(64, 0x1000, bytes.fromhex("62f17c4858c1 c3"), unlisted=True)]
+    ['(evex) 62f17c4858c1', 'ret']
     """
     # checked before the first item is requested
     bits, ip = _checks.number("bits", bits, _checks.U32), _checks.number("ip", ip)
     code = _checks.code_bytes("code", code)
     if bits not in (16, 32, 64):
         raise refusal_of(Reason.BAD_MODE)
-    return _items(bits, ip, code)
+    return _items(bits, ip, code, unlisted)
 
 
-def _items(bits: int, ip: int, code: bytes) -> Iterator[Item]:
+def _items(bits: int, ip: int, code: bytes, unlisted: bool) -> Iterator[Item]:
     mask, at, chunks = (1 << bits) - 1, 0, iter(_CHUNKS)
     # the address stays valid as long as `code` is alive
     chunk, where = 0, cast(c_char_p(code), c_void_p).value or 0
@@ -125,6 +129,13 @@ def _items(bits: int, ip: int, code: bytes) -> Iterator[Item]:
                 instr.bits = bits
                 yield instr
             elif structs[end - SIZE + LOW_AT] == 0xFF:
+                item = measured_item(bits, address, code, at) if unlisted else None
+                if item is not None:
+                    yield item
+                    # the items after the first byte are not those after the instruction
+                    at += item.len
+                    chunks = iter(_CHUNKS)
+                    break
                 yield BadByte(address, code[at : at + 1])
             else:
                 yield Rest(address, code[at:])

@@ -26,7 +26,7 @@ Bytes = bytes
 
 
 class Item:
-    """An item of `iterate`: an `Instr`, a `BadByte` or a `Rest`. Its `kind` is an `ItemKind`.
+    """An item of `iterate`: an `Instr`, a `BadByte`, a `Rest` or an `Unlisted`. Its `kind` is an `ItemKind`.
 
     `address` is the address of its first byte, `bytes` has its bytes, and `len` and `len(item)` are their number.
 

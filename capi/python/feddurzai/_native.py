@@ -7,7 +7,7 @@ import os
 from typing import Callable, List, Tuple, Type
 
 # the interface of the header for which this package is written
-INTERFACE = 4
+INTERFACE = 5
 
 MAX_LEN = 15
 MAX_JUMP = 16
@@ -76,6 +76,7 @@ version = _call(_short, "version", result=_u32)
 decode = _call(_short, "decode", _u32, _u64, _at, _size, _at)
 decode_many = _call(_long, "decode_many", _u32, _u64, _at, _size, _at, _size, _at)
 offsets = _call(_short, "offsets", _u32, _at, _size, _at)
+measure = _call(_short, "measure", _u32, _at, _size, _at)
 line = _call(_short, "line", _u32, _u32, _u64, _at, _size, _at, _at, _size)
 text = _call(_short, "text", _u32, _u32, _at, _at, _size)
 encode = _call(_short, "encode", _u32, _u64, _at, _at, _size)

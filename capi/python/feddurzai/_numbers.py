@@ -214,6 +214,35 @@ class ItemKind(Named):
     INSTRUCTION = 0
     INVALID = 1
     TOO_SHORT = 2
+    UNLISTED = 3
+
+
+class UnlistedKind(Named):
+    """The kind of an instruction that the opcode table leaves out, by its encoding. docs/unlisted.md lists the bytes of each.
+
+    >>> print(measure(64, bytes.fromhex("0f0fc19e")).kind)
+    UnlistedKind.NOW3D
+    """
+
+    EVEX = 0
+    MASK = 1
+    VEX = 2
+    XOP = 3
+    NOW3D = 4
+    LEGACY = 5
+
+
+class Reference(Named):
+    """What the relative number of such an instruction refers to: memory at RIP or EIP, or the branch of XBEGIN; NONE if there is no number.
+
+    >>> print(measure(64, bytes.fromhex("c7f810000000")).reference)
+    Reference.BRANCH
+    """
+
+    NONE = 0
+    RIP = 1
+    EIP = 2
+    BRANCH = 3
 
 
 class Form(Named):

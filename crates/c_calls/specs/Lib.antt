@@ -6,6 +6,7 @@ pub mod Back
 pub mod Answers
 pub mod Lines
 pub mod Many
+pub mod Measuring
 pub mod Names
 pub mod Assembling
 pub mod Jumps

@@ -299,3 +299,19 @@ pub struct FlatOffsets {
     pub immediate2: FlatPart,
     pub immediate3: FlatPart,
 }
+
+/// The shape of an instruction without a row.
+#[derive(Clone, Copy)]
+#[repr(C)]
+pub struct FlatShape {
+    /// The number that is relative to the address after the instruction, as a signed number of 64 bits; 0 if there is none.
+    pub distance: u64,
+    /// Its kind: 0 to 5 for EVEX, mask registers, VEX, XOP, 3DNow! and legacy.
+    pub kind: u8,
+    /// What the number refers to: 1 memory at RIP, 2 memory at EIP, 3 a branch, or 0 if there is none.
+    pub reference: u8,
+    /// The offset of the number in the instruction.
+    pub at: u8,
+    /// How many bytes the number has.
+    pub len: u8,
+}

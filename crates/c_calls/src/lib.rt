@@ -23,6 +23,7 @@ pub mod jump;
 pub mod laws;
 pub mod line;
 pub mod many;
+pub mod measuring;
 mod moved;
 mod moved_blocks;
 pub mod moving;

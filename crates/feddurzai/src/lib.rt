@@ -37,6 +37,11 @@ pub mod parts {
     pub use decoder::byte_offsets::{ByteOffsets, Part, laws, offsets};
 }
 
+/// Instructions that the opcode table leaves out: their lengths, by the encoding formats alone, and the addresses that they refer to.
+pub mod measuring {
+    pub use unlisted::{Kind, MeasureError, Reference, Relative, Shape, laws, measure, target};
+}
+
 /// Writing instructions: the shortest bytes of one, and its parts.
 pub mod encoding {
     pub use encoder::{NoSpelling, encode, encoded_len, laws};

@@ -3,11 +3,12 @@
 ghost use Rattle.c_calls.specs.Answers.{IsDecoded};
 ghost use Rattle.c_calls.specs.Lines.{IsLine, IsLineText};
 ghost use Rattle.c_calls.specs.Many.{IsMany};
+ghost use Rattle.c_calls.specs.Measuring.{IsShapeOf};
 ghost use Rattle.c_calls.specs.Numbers.{bits_numbered};
 ghost use Rattle.c_calls.specs.Offsets.{AreOffsetsOf};
 
-use c_calls::flat::{FlatInstr, FlatOffsets};
-use c_calls::{decoding, line, many, offsets};
+use c_calls::flat::{FlatInstr, FlatOffsets, FlatShape};
+use c_calls::{decoding, line, many, measuring, offsets};
 
 /// Reads the instruction at the start of some bytes into a struct, and returns its length, 1 to 15.
 ///
@@ -47,6 +48,17 @@ pub extern "C" fn feddurzai_offsets(bits: u32, bytes: &[u8], parts: &mut FlatOff
     ensures { AreOffsetsOf (bits_numbered bits) bytes.now parts.old parts.new result }
 {
     offsets::offsets(bits, bytes, parts)
+}
+
+/// Measures the instruction at the start of some bytes if the opcode table leaves it out, by its encoding format alone, and returns its length, 1 to 15.
+///
+/// Refusals: `Mode`; `TooShort` if the bytes, fewer than 15, end inside an encoding that is measured; `Invalid` if no such encoding starts there, or an
+/// instruction of the table does. The struct is then unchanged (Intel SDM volume 2, 2.3, 2.7 and appendix A).
+#[unsafe(no_mangle)]
+pub extern "C" fn feddurzai_measure(bits: u32, bytes: &[u8], shape: &mut FlatShape) -> i32
+    ensures { IsShapeOf (bits_numbered bits) bytes.now shape.old shape.new result }
+{
+    measuring::measure(bits, bytes, shape)
 }
 
 /// Reads the instruction at the start of some bytes into a struct, writes its text with a terminating 0, and returns its length, 1 to 15.

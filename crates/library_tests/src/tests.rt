@@ -10,6 +10,7 @@ use feddurzai::format::Intel;
 use feddurzai::hooks::{Detour, DetourError, Hooks, JumpForm, StartTarget, detour};
 use feddurzai::info::laws::well_formed_codes_are_in_the_table;
 use feddurzai::info::{Flow, flow_of};
+use feddurzai::measuring::{Kind, Shape, measure};
 use feddurzai::moving::move_block;
 use feddurzai::region::{NotTaken, Region};
 use feddurzai::rows::code_of;
@@ -95,6 +96,18 @@ fn an_instruction_is_read_told_and_written(rt: HostRuntime) -> Result<(), Fail> 
     let want = b"0000000000001000 ConditionalBranch r -> 0x1012\n";
     same_items(&rt, "the line", &line, want);
     Ok(())
+}
+
+// `vaddps zmm0, zmm0, zmm1`, which the table leaves out.
+#[test]
+fn an_instruction_without_a_row_is_measured(rt: HostRuntime) {
+    let shape = measure(Bits::B64, &[0x62, 0xf1, 0x7c, 0x48, 0x58, 0xc1]);
+    let want = Shape {
+        len: 6,
+        kind: Kind::Evex,
+        relative: None,
+    };
+    same(&rt, "the shape", &shape, &Ok(want));
 }
 
 /// The bytes of the branch at 1000, moved.

@@ -15,5 +15,6 @@ mod table_tests;
 mod tail_tests;
 mod text_tests;
 mod touched_tests;
+mod unlisted_tests;
 mod value_tests;
 mod word_tests;

@@ -2,7 +2,7 @@
 
 use c_calls::flat::{
     FlatBlocks, FlatDetour, FlatInfo, FlatInstr, FlatMemoryUse, FlatMove, FlatMoved, FlatOffsets,
-    FlatOperand, FlatPart, FlatPlace, FlatStep, FlatTouched, FlatUse,
+    FlatOperand, FlatPart, FlatPlace, FlatShape, FlatStep, FlatTouched, FlatUse,
 };
 
 const NO_OPERAND: FlatOperand = FlatOperand {
@@ -44,6 +44,15 @@ pub(crate) const NO_PARTS: FlatOffsets = FlatOffsets {
     immediate1: NO_PART,
     immediate2: NO_PART,
     immediate3: NO_PART,
+};
+
+/// A kind that is none, so that a call that leaves it is seen.
+pub(crate) const NO_SHAPE: FlatShape = FlatShape {
+    distance: 0,
+    kind: 9,
+    reference: 0,
+    at: 0,
+    len: 0,
 };
 
 pub(crate) const NO_USE: FlatUse = FlatUse {

@@ -1,7 +1,7 @@
 //! Reading, showing, telling and writing an instruction.
 
 use crate::c_tests::compare::{answers, are, gave, wrote};
-use crate::c_tests::empty::{NO_INFO, NO_INSTR, NO_PARTS, NO_USE, UNTOLD};
+use crate::c_tests::empty::{NO_INFO, NO_INSTR, NO_PARTS, NO_SHAPE, NO_USE, UNTOLD};
 use c_calls::assembling::{assemble, read_intel};
 use c_calls::decoding::decode;
 use c_calls::effects::{effects, full_register};
@@ -10,6 +10,7 @@ use c_calls::flat::{FlatInstr, FlatTouched, FlatUse};
 use c_calls::info::info;
 use c_calls::line::{line, line_text};
 use c_calls::many::decode_many;
+use c_calls::measuring::measure;
 use c_calls::offsets::offsets;
 use c_calls::texts::text;
 use std::process::Abort;
@@ -51,6 +52,24 @@ fn an_instruction_is_parted(rt: HostRuntime) {
     let part = parts.displacement;
     let found = [part.at as u64, part.len as u64];
     gave(&rt, "the displacement", answer, &found, 5, &[4, 1]);
+}
+
+/// `vpxord zmm0, zmm0, [rip+0x10]`, which the table leaves out.
+const VPXORD: &[u8] = &[0x62, 0xf1, 0x7d, 0x48, 0xef, 0x05, 0x10, 0, 0, 0];
+
+// Its kind, and where its number at RIP is.
+#[test]
+fn an_instruction_without_a_row_is_measured(rt: HostRuntime) {
+    let mut shape = NO_SHAPE;
+    let answer = measure(64, VPXORD, &mut shape);
+    let found = [
+        shape.kind as u64,
+        shape.reference as u64,
+        shape.at as u64,
+        shape.len as u64,
+        shape.distance,
+    ];
+    gave(&rt, "the shape", answer, &found, 10, &[0, 1, 6, 4, 0x10]);
 }
 
 // Its flow, the size of its memory operand and how many registers it names.

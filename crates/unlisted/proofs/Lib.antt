@@ -1,0 +1,4 @@
+pub mod Growing
+pub mod Lengths
+pub mod Unread
+pub mod Answers

@@ -1,0 +1,196 @@
+#!/usr/bin/env python3
+"""Compares the lengths of instructions without a row, and the addresses that they refer to, with other disassemblers.
+
+    tools/compare_unlisted.py objdump FILE ..       each instruction of these programs and libraries whose format is measured
+    tools/compare_unlisted.py zydis [COUNT [SEED]]  COUNT random encodings of each format, 20,000 by default
+    tools/compare_unlisted.py random [COUNT [SEED]] the same with objdump
+
+`tools/unlisted/model.py` computes the lengths from the formats alone; docs/unlisted.md states them. The option --measure PROGRAM also asks a program that
+reads lines such as `64 62f17c4858c1` and writes for each the length, kind and address, `ended`, or `unknown`: its answers must be those of the model,
+or `unknown`. Needed are objdump (Debian: binutils), or Zydis and a C compiler (Debian: libzydis-dev, gcc).
+
+The script prints each difference, and ends with status 1 if there is one. No proof depends on it.
+"""
+import argparse
+import collections
+import os
+import re
+import subprocess
+import sys
+import tempfile
+
+sys.dont_write_bytecode = True
+from unlisted.model import ENDED, shape, target  # noqa: E402
+from unlisted.samples import samples  # noqa: E402
+
+HERE = os.path.dirname(os.path.abspath(__file__))
+LINE = re.compile(r"^\s*([0-9a-f]+):\s((?:[0-9a-f]{2} )+)\s*(.*)$")
+NOTE = re.compile(r"#\s*(?:0x)?([0-9a-f]+)")
+BRANCH = re.compile(r"xbegin\s+(?:0x)?([0-9a-f]+)")
+MACHINES = {16: "i8086", 32: "i386", 64: "i386:x86-64"}
+
+
+def disassembled(words):
+    """The instructions that objdump lists: address, bytes and text."""
+    listing = subprocess.run(["objdump", "-w", "--insn-width=16", *words], capture_output=True, text=True, check=True).stdout
+    for line in listing.splitlines():
+        found = LINE.match(line)
+        if found:
+            yield int(found[1], 16), bytes.fromhex(found[2]), found[3]
+
+
+def tell(words):
+    """Prints a difference."""
+    print("differs:", *words)
+    return 1
+
+
+def compare_programs(paths):
+    """Each instruction of programs in 64-bit mode, as objdump lists it."""
+    differences = 0
+    for path in paths:
+        counts, all_count, addresses = collections.Counter(), 0, 0
+        for address, code, text in disassembled(["-d", path]):
+            if "(bad)" in text:
+                continue
+            all_count += 1
+            found = shape(64, code + b"\x90" * 15)
+            if found in (None, ENDED):
+                continue
+            counts[found.kind] += 1
+            if found.length != len(code):
+                differences += tell((path, f"{address:x}", code.hex(), text, found.length))
+            note = NOTE.search(text) or BRANCH.match(text)
+            if note and "rip" in text or found.relative:
+                addresses += 1
+                if not note or target(64, address, found) != int(note[1], 16):
+                    differences += tell((path, f"{address:x}", code.hex(), text, found))
+        kinds = ", ".join(f"{n:,} {kind}" for kind, n in sorted(counts.items()))
+        print(f"{os.path.basename(path)}: {all_count:,} instructions, {sum(counts.values()):,} with a format: {kinds}; {addresses:,} addresses")
+    return differences
+
+
+def compare_random_objdump(count, seed):
+    """Random encodings, each at a multiple of 32 bytes with NOPs behind it."""
+    differences = 0
+    tried, same, refused = collections.Counter(), collections.Counter(), collections.Counter()
+    by_mode = collections.defaultdict(list)
+    for kind, bits, code in samples(count, seed):
+        found = shape(bits, code)
+        if found not in (None, ENDED):
+            by_mode[bits].append((kind, code[:found.length], found))
+            tried[kind] += 1
+    for bits, cases in by_mode.items():
+        with tempfile.NamedTemporaryFile() as file:
+            file.write(b"".join(code + b"\x90" * (32 - len(code)) for _, code, _ in cases))
+            file.flush()
+            listed = {address: (code, text) for address, code, text in
+                      disassembled(["-D", "-b", "binary", "-m", MACHINES[bits], file.name]) if address % 32 == 0}
+        for index, (kind, code, found) in enumerate(cases):
+            other, text = listed.get(32 * index, (b"", "(bad)"))
+            if "(bad)" in text or len(other) < len(code) and not set(text.split()) - PREFIX_WORDS:
+                refused[kind] += 1
+            elif len(other) == len(code):
+                same[kind] += 1
+            else:
+                differences += tell((bits, code.hex(), other.hex(), text, found))
+    for kind in tried:
+        print(f"{kind}: {tried[kind]:,} tried, {same[kind]:,} of the same length, {refused[kind]:,} refused by objdump")
+    return differences
+
+
+PREFIX_WORDS = {"data16", "addr32", "addr16", "data32", "cs", "ds", "es", "ss", "fs", "gs", "repz", "repnz", "rep", "lock", "rex", "rex.W", "rex.R",
+                "rex.X", "rex.B", *(f"rex.{a}" for a in ("WR", "WX", "WB", "RX", "RB", "XB", "WRX", "WRB", "WXB", "RXB", "WRXB"))}
+
+
+def built_zydis(folder):
+    """The program that asks Zydis."""
+    program = os.path.join(folder, "zydis_lengths")
+    subprocess.run(["cc", "-O2", "-o", program, os.path.join(HERE, "unlisted", "zydis_lengths.c"), "-lZydis"], check=True)
+    return program
+
+
+def asked(program, lines):
+    """A program's answers to lines."""
+    text = "".join(line + "\n" for line in lines)
+    return subprocess.run([program], input=text, capture_output=True, text=True, check=True).stdout.splitlines()
+
+
+# why Zydis refuses an instruction, by its status codes
+CAUSES = {"1": "no such opcode", "2": "too long", "3": "no such register", "4": "LOCK", "8": "fields of EVEX", "10": "mask"}
+
+
+def base_of(bits):
+    """The address of each encoding."""
+    return 0x4000 if bits == 16 else 0x400000
+
+
+def shown(bits, found):
+    """The answer of a program that measures, by the model."""
+    if found is None:
+        return "unknown"
+    if found == ENDED:
+        return "ended"
+    address = target(bits, base_of(bits), found)
+    return f"{found.length} {found.kind} {'-' if address is None else f'{address:x}'}"
+
+
+def compare_zydis(count, seed, measure):
+    """Random encodings with Zydis, and with a program that measures."""
+    differences = 0
+    cases = [(kind, bits, code, shape(bits, code)) for kind, bits, code in samples(count, seed)]
+    lines = [f"{bits} {code.hex()}" for _, bits, code, _ in cases]
+    with tempfile.TemporaryDirectory() as folder:
+        answers = asked(built_zydis(folder), lines)
+    tried, same, refused, addresses, unlike = (collections.Counter() for _ in range(5))
+    causes = collections.defaultdict(collections.Counter)
+    for (kind, bits, code, found), answer in zip(cases, answers, strict=True):
+        if found in (None, ENDED):
+            continue
+        tried[kind] += 1
+        length, address, word = answer.split()
+        if length == "-":
+            refused[kind] += 1
+            causes[kind][CAUSES.get(word, word)] += 1
+            continue
+        if word in ("jkzd", "jknzd"):
+            unlike[kind] += 1
+            continue
+        # Zydis does not wrap the target of an XBEGIN at the address size of the mode
+        other = None if address == "-" else int(address, 16) % (1 << bits)
+        if int(length) != found.length or other != target(bits, base_of(bits), found):
+            differences += tell((bits, code.hex(), answer, found))
+            continue
+        same[kind] += 1
+        addresses[kind] += address != "-"
+    for kind in tried:
+        print(f"{kind}: {tried[kind]:,} tried, {same[kind]:,} the same, of these {addresses[kind]:,} with an address, {unlike[kind]:,} JKZD and JKNZD, "
+              f"{refused[kind]:,} refused by Zydis: " + (", ".join(f"{n:,} {cause}" for cause, n in sorted(causes[kind].items())) or "none"))
+    if measure:
+        listed = collections.Counter()
+        for (kind, bits, code, found), answer in zip(cases, asked(measure, lines), strict=True):
+            if answer == "unknown" and found not in (None, ENDED):
+                listed[kind] += 1
+            elif answer != shown(bits, found):
+                differences += tell((bits, code.hex(), answer, shown(bits, found)))
+        print("measured by the program; instructions of the table:", dict(listed))
+    return differences
+
+
+def main():
+    """Compares, and returns the exit status."""
+    parser = argparse.ArgumentParser(description=__doc__, formatter_class=argparse.RawDescriptionHelpFormatter)
+    parser.add_argument("what", choices=("objdump", "random", "zydis"))
+    parser.add_argument("words", nargs="*")
+    parser.add_argument("--measure", help="a program that measures")
+    options = parser.parse_args()
+    if options.what == "objdump":
+        return 1 if compare_programs(options.words) else 0
+    count, seed = [int(word) for word in options.words] + [20000, 1][len(options.words):]
+    if options.what == "random":
+        return 1 if compare_random_objdump(count, seed) else 0
+    return 1 if compare_zydis(count, seed, options.measure) else 0
+
+
+if __name__ == "__main__":
+    sys.exit(main())
