@@ -4,23 +4,25 @@
     tools/compare_unlisted.py objdump FILE ..       each instruction of these programs and libraries whose format is measured
     tools/compare_unlisted.py zydis [COUNT [SEED]]  COUNT random encodings of each format, 20,000 by default
     tools/compare_unlisted.py random [COUNT [SEED]] the same with objdump
+    tools/compare_unlisted.py library [COUNT [SEED]]  the same with the library, by its Python package
 
-`tools/unlisted/model.py` computes the lengths from the formats alone; docs/unlisted.md states them. The option --measure PROGRAM also asks a program that
-reads lines such as `64 62f17c4858c1` and writes for each the length, kind and address, `ended`, or `unknown`: its answers must be those of the model,
-or `unknown`. Needed are objdump (Debian: binutils), or Zydis and a C compiler (Debian: libzydis-dev, gcc).
+`tools/unlisted/model.py` computes the lengths from the formats alone; docs/unlisted.md states them. The library's answers must be those of the model,
+or that the table has the instruction. Needed are objdump (Debian: binutils); or Zydis and a C compiler (Debian: libzydis-dev, gcc); or the shared library
+(capi/build.sh), which the environment variable FEDDURZAI_LIBRARY can name.
 
 The script prints each difference, and ends with status 1 if there is one. No proof depends on it.
 """
 import argparse
 import collections
 import os
+import random
 import re
 import subprocess
 import sys
 import tempfile
 
 sys.dont_write_bytecode = True
-from unlisted.model import ENDED, shape, target  # noqa: E402
+from unlisted.model import ENDED, Shape, shape, target  # noqa: E402
 from unlisted.samples import samples  # noqa: E402
 
 HERE = os.path.dirname(os.path.abspath(__file__))
@@ -125,18 +127,53 @@ def base_of(bits):
     return 0x4000 if bits == 16 else 0x400000
 
 
-def shown(bits, found):
-    """The answer of a program that measures, by the model."""
-    if found is None:
-        return "unknown"
-    if found == ENDED:
-        return "ended"
-    address = target(bits, base_of(bits), found)
-    return f"{found.length} {found.kind} {'-' if address is None else f'{address:x}'}"
+def library_answer(feddurzai, bits, code):
+    """What the library measures, as a shape of the model, ENDED or None."""
+    try:
+        found = feddurzai.measure(bits, code)
+    except feddurzai.TooShort:
+        return ENDED
+    except feddurzai.InvalidCode:
+        return None
+    relative = (found.reference.name.lower(), found.at, found.size, found.distance) if found.reference else None
+    return Shape(found.len, found.kind.name.lower(), relative)
 
 
-def compare_zydis(count, seed, measure):
-    """Random encodings with Zydis, and with a program that measures."""
+def is_listed(feddurzai, bits, code):
+    """Whether the table has an instruction that the bytes begin or are the front of."""
+    try:
+        feddurzai.decode(bits, 0, code)
+    except feddurzai.InvalidCode:
+        return False
+    except feddurzai.TooShort:
+        return True
+    return True
+
+
+def compare_library(count, seed):
+    """Random encodings, and their first bytes, with the library."""
+    sys.path.insert(0, os.path.join(HERE, "..", "capi", "python"))
+    import feddurzai
+    differences = 0
+    tried, same, listed = collections.Counter(), collections.Counter(), collections.Counter()
+    chance = random.Random(seed)
+    for kind, bits, code in samples(count, seed):
+        for code in (code, code[:chance.randrange(16)]):
+            found, answer = shape(bits, code), library_answer(feddurzai, bits, code)
+            tried[kind] += 1
+            if answer == found:
+                same[kind] += 1
+            elif answer is None and is_listed(feddurzai, bits, code if found == ENDED else code[:found.length]):
+                listed[kind] += 1
+            else:
+                differences += tell((bits, code.hex(), answer, found))
+    for kind in tried:
+        print(f"{kind}: {tried[kind]:,} tried, {same[kind]:,} the same as the model, {listed[kind]:,} of the table")
+    return differences
+
+
+def compare_zydis(count, seed):
+    """Random encodings with Zydis."""
     differences = 0
     cases = [(kind, bits, code, shape(bits, code)) for kind, bits, code in samples(count, seed)]
     lines = [f"{bits} {code.hex()}" for _, bits, code, _ in cases]
@@ -166,30 +203,20 @@ def compare_zydis(count, seed, measure):
     for kind in tried:
         print(f"{kind}: {tried[kind]:,} tried, {same[kind]:,} the same, of these {addresses[kind]:,} with an address, {unlike[kind]:,} JKZD and JKNZD, "
               f"{refused[kind]:,} refused by Zydis: " + (", ".join(f"{n:,} {cause}" for cause, n in sorted(causes[kind].items())) or "none"))
-    if measure:
-        listed = collections.Counter()
-        for (kind, bits, code, found), answer in zip(cases, asked(measure, lines), strict=True):
-            if answer == "unknown" and found not in (None, ENDED):
-                listed[kind] += 1
-            elif answer != shown(bits, found):
-                differences += tell((bits, code.hex(), answer, shown(bits, found)))
-        print("measured by the program; instructions of the table:", dict(listed))
     return differences
 
 
 def main():
     """Compares, and returns the exit status."""
     parser = argparse.ArgumentParser(description=__doc__, formatter_class=argparse.RawDescriptionHelpFormatter)
-    parser.add_argument("what", choices=("objdump", "random", "zydis"))
+    parser.add_argument("what", choices=("objdump", "random", "zydis", "library"))
     parser.add_argument("words", nargs="*")
-    parser.add_argument("--measure", help="a program that measures")
     options = parser.parse_args()
     if options.what == "objdump":
         return 1 if compare_programs(options.words) else 0
     count, seed = [int(word) for word in options.words] + [20000, 1][len(options.words):]
-    if options.what == "random":
-        return 1 if compare_random_objdump(count, seed) else 0
-    return 1 if compare_zydis(count, seed, options.measure) else 0
+    compare = {"random": compare_random_objdump, "zydis": compare_zydis, "library": compare_library}[options.what]
+    return 1 if compare(count, seed) else 0
 
 
 if __name__ == "__main__":
