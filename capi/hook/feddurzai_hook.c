@@ -42,14 +42,18 @@
 /* of linux/membarrier.h, which old systems do not have: PRIVATE_EXPEDITED_SYNC_CORE. And of linux/futex.h */
 enum { BARRIER = 1 << 5, REGISTER_BARRIER = 1 << 6, WAIT_PRIVATE = 128, WAKE_PRIVATE = 129 };
 
+/* how often a thread that does not answer is looked for, before the change is refused */
+#ifndef FEDDURZAI_HOOK_WAITS
+#define FEDDURZAI_HOOK_WAITS 500
+#endif
+
 enum {
     PAGE = 4096,
     AREA = 65536,           /* bytes of trampolines that are mapped at once */
     BLOCKS = AREA / 16,     /* the most trampolines there */
     HOOKS_A_CHUNK = 32,
     INT3 = 0xcc,
-    WAIT_MS = 10,           /* how long a thread has to answer before it is looked for otherwise, */
-    WAITS = 500,            /* and how often that is done */
+    WAIT_MS = 10,           /* how long a thread has to answer before it is looked for otherwise */
     TRIES = 50              /* how often a thread that blocks SIGTRAP is looked at again, as it starts or forks */
 };
 /* how far a trampoline may be from the function; the rest up to 2 gigabytes is for operands at RIP */
@@ -289,6 +293,7 @@ static struct {
     _Atomic(uint32_t) room;
     uint32_t asked_count, question;
     _Atomic(uint32_t) answers;          /* a futex: the number of answers so far */
+    _Atomic(uint64_t) traps, moved;     /* calls that met an INT3 of a change; threads moved out of taken bytes */
     /* what the program does at SIGTRAP: the newer of the two, by the lowest bit */
     struct sigaction old_traps[2];
     atomic_uint old_trap;
@@ -693,16 +698,19 @@ static int is_foreign(struct hook *hook, int state)
         && state != TURNING_ON && state != TURNING_OFF;
 }
 
-/* a call that met the INT3 of a change goes to the replacement or the trampoline, and starts again if the change is over */
+/* a call that met the INT3 of a change goes to the replacement or the trampoline; after the change it starts anew */
 static void at_trap(int signal, siginfo_t *info, void *context)
 {
     greg_t *rip = &((ucontext_t *)context)->uc_mcontext.gregs[REG_RIP];
     int is_int3 = info->si_code == SI_KERNEL || info->si_code == TRAP_BRKPT;
     struct hook *hook = is_int3 ? hook_at((uint64_t)*rip - 1) : NULL;
     int state = hook == NULL ? GONE : atomic_load(&hook->state);
-    if (hook == NULL || is_foreign(hook, state))
+    if (hook == NULL || is_foreign(hook, state)) {
         pass_on(signal, info, context);
-    else if (state == TURNING_ON)
+        return;
+    }
+    atomic_fetch_add(&table.traps, 1);
+    if (state == TURNING_ON)
         *rip = (greg_t)atomic_load(&hook->replacement);
     else if (state == TURNING_OFF)
         *rip = (greg_t)atomic_load(&hook->place);
@@ -725,6 +733,7 @@ static enum answer move_out(greg_t *rip)
         for (k = 1; k < hook->parts.count && hook->parts.placed; k++)
             if (hook->parts.taken_at[k] == at) {
                 *rip = (greg_t)(hook->parts.place + hook->parts.place_at[k]);
+                atomic_fetch_add(&table.moved, 1);
                 return OUTSIDE;
             }
         return INSIDE;
@@ -944,7 +953,7 @@ static int32_t wait_for_answers(void)
         }
         if (left == 0)
             return 0;
-        if (waits == WAITS)
+        if (waits == FEDDURZAI_HOOK_WAITS)
             return FEDDURZAI_HOOK_BUSY;
         late = syscall(SYS_futex, &table.answers, WAIT_PRIVATE, answers, &pause, NULL, 0) != 0 && errno == ETIMEDOUT;
         waits += late;
@@ -1084,7 +1093,7 @@ static int32_t write_rest(int mem, struct hook *only, int first)
 }
 
 /* makes each change that is due, in a process that allows it: INT3 over each first byte; the threads leave the taken
-   bytes; all other bytes; the first bytes. Each processor is serialized behind each step, so that none runs a mixture */
+   bytes; all other bytes; the first bytes. Each processor is serialized behind each step, so none runs a mixture */
 static int32_t write_due(int mem, struct hook *only, int asks)
 {
     struct walk walk = {NULL, 0};
@@ -1443,6 +1452,12 @@ int32_t feddurzai_hook_apply(void)
     int cancel;
     int32_t said = enter(&cancel);
     return said < 0 ? said : leave(cancel, change(NULL));
+}
+
+void feddurzai_hook_counts(uint64_t *traps, uint64_t *moved)
+{
+    *traps = atomic_load(&table.traps);
+    *moved = atomic_load(&table.moved);
 }
 
 const char *feddurzai_hook_error_text(int32_t said)

@@ -175,6 +175,9 @@ int32_t feddurzai_hook_queue_enable(void *target);
 int32_t feddurzai_hook_queue_disable(void *target);
 int32_t feddurzai_hook_apply(void);
 
+/* How many calls met the INT3 of a change so far, and how many threads were moved out of bytes that it overwrote. */
+void feddurzai_hook_counts(uint64_t *traps, uint64_t *moved);
+
 /* Returns a sentence in English, without a full stop, for a status of these calls or of feddurzai_detour. */
 const char *feddurzai_hook_error_text(int32_t said);
 
