@@ -126,6 +126,6 @@ int main()
     CHECK(aborts(function, 400), 1);
     CHECK(feddurzai_hook_remove(target), 0);
     CHECK(result_of(function, 400), -400);
-    std::printf("%d checks of hooks and C++ exceptions, %d failed\n", tests, failures);
+    printf("%d checks of hooks and C++ exceptions, %d failed\n", tests, failures);
     return failures == 0 ? 0 : 1;
 }
