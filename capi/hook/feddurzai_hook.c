@@ -297,7 +297,7 @@ static struct {
     /* what the program does at SIGTRAP: the newer of the two, by the lowest bit */
     struct sigaction old_traps[2];
     atomic_uint old_trap;
-    int forks;                          /* 1 when fork knows the lock */
+    int forks, locked_to_fork;          /* 1 when fork knows the lock, and while it has it */
 } table = {.lock = PTHREAD_ERRORCHECK_MUTEX_INITIALIZER_NP};
 
 /* A position in the table; {NULL, 0} is before its first entry. */
@@ -1152,14 +1152,16 @@ static int32_t change(struct hook *only)
 
 /* ---- the calls of the header -------------------------------------------------------------------------------- */
 
+/* a thread that forks within a call has the lock already, and keeps it */
 static void before_fork(void)
 {
-    pthread_mutex_lock(&table.lock);
+    table.locked_to_fork = pthread_mutex_lock(&table.lock) == 0;
 }
 
 static void after_fork(void)
 {
-    pthread_mutex_unlock(&table.lock);
+    if (table.locked_to_fork)
+        pthread_mutex_unlock(&table.lock);
 }
 
 /* the child is another thread to the lock */
