@@ -121,10 +121,10 @@ tries_hooks() {
     for way in "" -DFEDDURZAI_HOOK_BY_RIGHTS; do
         hooked hook_threads "$here/examples/hook_threads.c" -O2 $way
         say "$backend: examples/hook_threads.c${way:+, $way}: $(paste -sd ';' "$work/hook_threads.log" | sed 's/;/; /g')"
-        hooked hooks "$here/tests/hooks.c" -O2 -DFEDDURZAI_HOOK_WAITS=20 $way
+        hooked hooks "$here/tests/hooks.c" -O2 -DFEDDURZAI_HOOK_WAITS=100 $way
         say "$backend: $(cat "$work/hooks.log")${way:+ ($way)}"
     done
-    hooked hooks_sanitized "$here/tests/hooks.c" -O1 $sanitized -DFEDDURZAI_HOOK_WAITS=20
+    hooked hooks_sanitized "$here/tests/hooks.c" -O1 $sanitized -DFEDDURZAI_HOOK_WAITS=100
     say "$backend: $(cat "$work/hooks_sanitized.log") ($sanitizers)"
     if command -v g++ >/dev/null; then
         gcc -std=gnu11 -O2 $warn -I"$here" -I"$here/hook" -c "$here/hook/feddurzai_hook.c" -o "$out/feddurzai_hook.o"

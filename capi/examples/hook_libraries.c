@@ -355,11 +355,11 @@ static void put_offset(uint8_t *at, const void *target)
     memcpy(at, &offset, sizeof offset);
 }
 
-/* writes each stub: lock inc qword [rel calls]; jmp [rel original]. The stubs are in the same pages as the hooks' table */
+/* writes each stub: lock inc qword [rel calls]; jmp [rel original]. The stubs follow the hooks' table, out of reach of the libraries */
 static int make_stubs(void)
 {
     size_t table = (sizeof *hooks * MOST + 4095) / 4096 * 4096, code = (size_t)MOST * STUB;
-    uint8_t *pages = mmap(NULL, table + code, PROT_READ | PROT_WRITE, MAP_PRIVATE | MAP_ANONYMOUS, -1, 0);
+    uint8_t *pages = mmap((void *)(uintptr_t)0x100000000000, table + code, PROT_READ | PROT_WRITE, MAP_PRIVATE | MAP_ANONYMOUS, -1, 0);
     int k;
     if (pages == MAP_FAILED)
         return 0;

@@ -7,6 +7,7 @@
  * calls, how many of them met a change and were redirected by SIGTRAP, and how many threads were moved out of the
  * overwritten bytes. A number as the first word is another count than ten thousand.
  */
+#define _GNU_SOURCE
 #include "feddurzai_hook.h"
 
 #include <inttypes.h>
@@ -15,6 +16,7 @@
 #include <stdatomic.h>
 #include <stdio.h>
 #include <stdlib.h>
+#include <sys/mman.h>
 
 enum { THREADS = 4, WAIT_EACH = 100 };
 
@@ -42,6 +44,16 @@ static uint64_t (*original)(uint64_t);
 static uint64_t replacement(uint64_t n)
 {
     return original(n) + ADDED;
+}
+
+/* a page out of reach with a jump to the replacement, so that the patch needs 14 bytes; or NULL */
+static void *far_replacement(void)
+{
+    uint8_t *page = mmap((void *)(uintptr_t)0x100000000000, 4096, PROT_READ | PROT_WRITE, MAP_PRIVATE | MAP_ANONYMOUS, -1, 0);
+    uint64_t at = (uint64_t)(uintptr_t)page, to = (uint64_t)(uintptr_t)replacement;
+    if (page == MAP_FAILED || feddurzai_jump(64, at, to, FEDDURZAI_JUMP_FAR, page, 4096) < 0)
+        return NULL;
+    return mprotect(page, 4096, PROT_READ | PROT_EXEC) == 0 ? page : NULL;
 }
 
 /* what a thread has counted; each thread has cache lines of its own */
@@ -99,14 +111,17 @@ int main(int count, char **words)
     feddurzai_hook_parts parts;
     feddurzai_hook_options options = {(size_t)(worked_end - (const uint8_t *)(uintptr_t)worked), 0, &parts};
     int forms[4] = {0}, taken[4] = {0};
+    void *near = FEDDURZAI_HOOK_ADDRESS(replacement), *far = far_replacement();
     int32_t said;
+    if (far == NULL)
+        return 1;
     for (k = 0; k < THREADS; k++)
         if (pthread_create(&callers[k].thread, NULL, call, &callers[k]) != 0)
             return 1;
     wait_for_calls();
     for (k = 0; k < rounds; k++) {
         options.flags = k % 2 == 0 ? 0 : FEDDURZAI_HOOK_FAR;
-        said = feddurzai_hook_install_with(FEDDURZAI_HOOK_ADDRESS(worked), FEDDURZAI_HOOK_ADDRESS(replacement), &original, &options);
+        said = feddurzai_hook_install_with(FEDDURZAI_HOOK_ADDRESS(worked), k % 2 == 0 ? near : far, &original, &options);
         if (said < 0)
             return fail("cannot install the hook", said);
         forms[parts.detour.form]++;
@@ -130,10 +145,12 @@ int main(int count, char **words)
             printf("thread %ld: %" PRIu64 " returned %" PRIx64 "\n", k, callers[k].wrong_n, callers[k].wrong_result);
     }
     feddurzai_hook_counts(&traps, &moved);
-    printf("%d hooks of %d bytes and %d of %d, installed and removed\n", forms[FEDDURZAI_DETOUR_NEAR] + forms[FEDDURZAI_DETOUR_RELAY],
+    printf("installed and removed: %d hooks by 5 bytes, which take %d, and %d by 14, which take %d\n", forms[FEDDURZAI_DETOUR_NEAR],
         taken[FEDDURZAI_DETOUR_NEAR], forms[FEDDURZAI_DETOUR_ABSOLUTE], taken[FEDDURZAI_DETOUR_ABSOLUTE]);
     printf("%" PRIu64 " calls met a change, %" PRIu64 " threads were moved\n", traps, moved);
     printf("%" PRIu64 " calls of %d threads: %" PRIu64 " by the function, %" PRIu64 " by the replacement, %" PRIu64 " WRONG\n", calls, THREADS,
         by_function, by_replacement, wrong);
+    if (forms[FEDDURZAI_DETOUR_NEAR] + forms[FEDDURZAI_DETOUR_ABSOLUTE] != rounds)
+        return 1;
     return wrong == 0 && by_function > 0 && by_replacement > 0 && by_function + by_replacement == calls ? 0 : 1;
 }

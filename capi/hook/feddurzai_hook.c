@@ -54,7 +54,7 @@ enum {
     HOOKS_A_CHUNK = 32,
     INT3 = 0xcc,
     WAIT_MS = 10,           /* how long a thread has to answer before it is looked for otherwise */
-    TRIES = 50              /* how often a thread that blocks SIGTRAP is looked at again, as it starts or forks */
+    TRIES = 100             /* how often a thread that blocks SIGTRAP is looked at, once a millisecond */
 };
 /* how far a trampoline may be from the function; the rest up to 2 gigabytes is for operands at RIP */
 static const uint64_t REACH = 0x70000000;
@@ -345,6 +345,12 @@ static struct hook *free_hook(void)
         return NULL;
     atomic_store(link, chunk);
     return &chunk->hooks[0];
+}
+
+static int is_hooked(uint64_t target)
+{
+    struct hook *hook = hook_at(target);
+    return hook != NULL && atomic_load(&hook->state) != GONE;
 }
 
 /* the offset of an address in the taken bytes of a hook, or 0 if it is not behind their first instruction */
@@ -856,14 +862,22 @@ static int rests_outside(int tid)
     return len <= 0 || (last != NULL && (last[2] == 'Z' || last[2] == 'X'));
 }
 
-/* blocks no SIGTRAP: the fifth bit of the mask of blocked signals */
+/* has ended, or blocks no SIGTRAP: the fifth bit of the mask of blocked signals. A thread that starts another one
+   blocks all signals for a moment, and so does one that starts */
 static int takes_traps(int tid, void *unused)
 {
+    const struct timespec pause = {0, 1000000L};
     char text[2048], *mask;
+    int tries;
     (void)unused;
-    if (read_of_thread(tid, "status", text, sizeof text) <= 0 || (mask = strstr(text, "SigBlk:")) == NULL)
-        return 1;
-    return (strtoull(mask + 7, NULL, 16) >> (SIGTRAP - 1) & 1) == 0;
+    for (tries = 0; tries < TRIES; tries++) {
+        if (read_of_thread(tid, "status", text, sizeof text) <= 0 || (mask = strstr(text, "SigBlk:")) == NULL)
+            return 1;
+        if ((strtoull(mask + 7, NULL, 16) >> (SIGTRAP - 1) & 1) == 0)
+            return 1;
+        nanosleep(&pause, NULL);
+    }
+    return 0;
 }
 
 static int count_thread(int tid, void *with)
@@ -1028,18 +1042,11 @@ static int32_t check_due(struct hook *only, int *count, int *alone, int *asks)
 /* what a process with these threads needs for a change while they run */
 static int32_t check_process(int threads)
 {
-    const struct timespec pause = {0, 1000000L};
-    int tries = 0;
     if (threads < 0)
         return FEDDURZAI_HOOK_NO_PROC;
     if (threads > 1 && syscall(SYS_membarrier, REGISTER_BARRIER, 0, 0) != 0)
         return FEDDURZAI_HOOK_NO_BARRIER;
-    while (!each_thread(takes_traps, NULL)) {
-        if (++tries == TRIES)
-            return FEDDURZAI_HOOK_TRAP_BLOCKED;
-        nanosleep(&pause, NULL);
-    }
-    return 0;
+    return each_thread(takes_traps, NULL) ? 0 : FEDDURZAI_HOOK_TRAP_BLOCKED;
 }
 
 /* writes INT3 over the first byte of each function */
@@ -1278,46 +1285,61 @@ static int same_bytes(uint64_t place, const feddurzai_hook_parts *parts)
     return memcmp((const void *)(uintptr_t)place, parts->trampoline, (size_t)parts->detour.bytes) == 0;
 }
 
-/* makes a hook: with the trampoline that the function had before, if it is the same; else with a new one, which is
-   written */
-static int32_t make_hook(struct hook *hook, const struct job *job, feddurzai_hook_parts *parts)
+/* makes a hook: with the trampoline that the function had before, `kept`, if it is the same; else with a new one */
+static int32_t make_hook(const struct job *job, uint64_t kept, feddurzai_hook_parts *parts)
 {
-    int far = (job->flags & FEDDURZAI_HOOK_FAR) != 0, mem;
+    int far = (job->flags & FEDDURZAI_HOOK_FAR) != 0;
     int32_t said;
-    if (hook->kept[far] != 0) {
-        said = make_at(job, hook->kept[far], parts);
-        if (said < 0 || same_bytes(hook->kept[far], parts))
-            return said;
-    }
+    if (kept != 0 && make_at(job, kept, parts) == 0 && same_bytes(kept, parts))
+        return 0;
     said = make_new(job, far, parts);
-    if (said == FEDDURZAI_HOOK_NO_PAGE && !far)
-        said = make_new(job, 1, parts);
-    if (said < 0)
-        return said;
-    hook->kept[far] = parts->place;
-    mem = open_code();
-    said = write_code(mem, parts->place, parts->trampoline, (size_t)parts->detour.bytes);
+    return said == FEDDURZAI_HOOK_NO_PAGE && !far ? make_new(job, 1, parts) : said;
+}
+
+/* writes a new trampoline */
+static int32_t write_trampoline(const feddurzai_hook_parts *parts)
+{
+    int mem = open_code();
+    int32_t said = write_code(mem, parts->place, parts->trampoline, (size_t)parts->detour.bytes);
     close_code(mem);
     return said;
+}
+
+/* frees the place of a trampoline that no one has run */
+static void release(uint64_t place)
+{
+    struct area *area;
+    for (area = table.areas; area != NULL; area = area->next)
+        feddurzai_region_release(&area->region, area->live, BLOCKS, place);
 }
 
 /* installs a hook of a function whose own bytes are in the job. The lock is taken */
 static int32_t install(const struct job *job, void *original, feddurzai_hook_parts *parts)
 {
     struct hook *hook = hook_at(job->target);
+    uint64_t *kept;
     void *place;
     int32_t said;
-    if (hook != NULL && atomic_load(&hook->state) != GONE)
+    if (is_hooked(job->target))
         return FEDDURZAI_HOOK_EXISTS;
     if (hook == NULL && (hook = free_hook()) == NULL)
         return FEDDURZAI_HOOK_NO_MEMORY;
-    said = make_hook(hook, job, parts);
+    kept = &hook->kept[(job->flags & FEDDURZAI_HOOK_FAR) != 0];
+    said = make_hook(job, *kept, parts);
     if (said < 0)
         return said;
     if (overlaps(hook, job->target, parts->detour.taken))
-        return FEDDURZAI_HOOK_OVERLAPS;
-    if (parts->count > 1 && !parts->placed && !(job->flags & FEDDURZAI_HOOK_ALONE))
-        return FEDDURZAI_HOOK_UNPLACED;
+        said = FEDDURZAI_HOOK_OVERLAPS;
+    else if (parts->count > 1 && !parts->placed && !(job->flags & FEDDURZAI_HOOK_ALONE))
+        said = FEDDURZAI_HOOK_UNPLACED;
+    else if (parts->place != *kept)
+        said = write_trampoline(parts);
+    if (said < 0) {
+        if (parts->place != *kept)
+            release(parts->place);
+        return said;
+    }
+    *kept = parts->place;
     hook->parts = *parts;
     hook->flags = job->flags;
     hook->stuck = 0;
@@ -1351,6 +1373,9 @@ int32_t feddurzai_hook_install_with(void *target, void *replacement, void *origi
         with = *options;
     if (target == NULL || replacement == NULL || target == replacement)
         return FEDDURZAI_HOOK_BAD_ARGUMENT;
+    /* before its file is compared with its bytes; and without the lock, since the loader has one too */
+    if (is_hooked(job.target))
+        return FEDDURZAI_HOOK_EXISTS;
     job.len = with.size != 0 ? with.size : (size_t)size_of(target);
     if (job.len == 0)
         return FEDDURZAI_HOOK_NO_SIZE;

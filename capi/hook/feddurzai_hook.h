@@ -82,7 +82,8 @@ enum {
     FEDDURZAI_HOOK_ALLOW_LOOPS = 2,     /* a branch to the start may exist, and reaches the replacement each time */
     FEDDURZAI_HOOK_NEED_SIGHT = 4,      /* refuse what control cannot be followed through (FEDDURZAI_HOOK_UNSEEN) */
     FEDDURZAI_HOOK_DISABLED = 8,        /* install the hook, but leave it disabled */
-    FEDDURZAI_HOOK_FAR = 16,            /* put the trampoline out of reach, so that the patch has 14 bytes: for tests */
+    FEDDURZAI_HOOK_FAR = 16,            /* for tests: the trampoline is out of reach. If the replacement is, too, the
+                                           patch has 14 bytes */
     FEDDURZAI_HOOK_ALONE = 32           /* the caller says that no other thread runs the function during any change */
 };
 

@@ -4,7 +4,7 @@
  * feddurzai_hook.c calls while it works; and threads that run, wait in the kernel, wait there within taken bytes, block
  * signals, start and end.
  *
- * Linux on x86-64. Compile feddurzai_hook.c with -DFEDDURZAI_HOOK_WAITS=20, so that a thread that never answers costs
+ * Linux on x86-64. Compile feddurzai_hook.c with -DFEDDURZAI_HOOK_WAITS=100, so that a thread that never answers costs
  * little. Not stripped: the program finds the sizes of its functions.
  */
 #define _GNU_SOURCE
@@ -111,7 +111,7 @@ static void check_places(void)
     CHECK(parts.count, 3);
     CHECK(parts.place_at[2], 4);
     /* out of reach: jne over jmp [rip] is 8 bytes, and its slot follows the jump back */
-    CHECK(feddurzai_hook_make(64, 0x1000, code, sizeof code, 0x5000, UINT64_C(0x7f0000000000), 0, &parts), 0);
+    CHECK(feddurzai_hook_make(64, 0x1000, code, sizeof code, UINT64_C(0x7e0000000000), UINT64_C(0x7f0000000000), 0, &parts), 0);
     CHECK(parts.detour.taken, 15);
     CHECK(parts.count, 6);
     for (k = 0; k < 6; k++) {
@@ -123,6 +123,19 @@ static void check_places(void)
 /* ---- hooks of functions of this program */
 
 #define FUNCTION __attribute__((noipa, noinline))
+
+/* two functions in one: the second begins within the bytes that a hook of the first overwrites */
+int outer(int n), within(int n);
+extern const uint8_t outer_end[];
+__asm__(
+    ".text\n"
+    ".type outer, @function\n"
+    "outer:  lea 1(%rdi), %eax\n"
+    "within: lea 2(%rax), %eax\n"
+    "        lea 3(%rax), %eax\n"
+    "        ret\n"
+    "outer_end:\n"
+    ".size outer, outer_end - outer\n");
 
 static int (*original)(int), (*original_other)(int);
 static int replaced;
@@ -262,8 +275,8 @@ static void check_refusals(void)
     CHECK(feddurzai_hook_install(ADDRESS((uint8_t *)ADDRESS(twice) + 1), ADDRESS(more), NULL), FEDDURZAI_HOOK_NO_SIZE);
     options.size = FEDDURZAI_MAX_CODE + 1;
     CHECK(feddurzai_hook_install_with(ADDRESS(twice), ADDRESS(more), NULL, &options), FEDDURZAI_TOO_LARGE);
-    options.size = 4;
-    CHECK(feddurzai_hook_install_with(ADDRESS(twice), ADDRESS(more), NULL, &options), FEDDURZAI_SMALL);
+    options.size = 3;
+    CHECK(feddurzai_hook_install_with(ADDRESS(outer), ADDRESS(more), NULL, &options), FEDDURZAI_SMALL);
     /* somebody else writes to a function whose hook is enabled, and to one whose hook is disabled */
     CHECK(feddurzai_hook_install(ADDRESS(twice), ADDRESS(more), &original), 0);
     byte = code[1];
@@ -283,26 +296,17 @@ static void check_refusals(void)
     CHECK(strcmp(feddurzai_hook_error_text(0), "no error"), 0);
 }
 
-/* two functions in one: the second begins within the bytes that a hook of the first overwrites */
-extern uint8_t outer[], within[], outer_end[];
-__asm__(
-    ".text\n"
-    "outer:  lea 1(%rdi), %eax\n"
-    "within: lea 2(%rax), %eax\n"
-    "        lea 3(%rax), %eax\n"
-    "        ret\n"
-    "outer_end:\n");
-
 static void check_overlaps(void)
 {
-    feddurzai_hook_options options = {(size_t)(outer_end - outer), 0, NULL};
-    int (*volatile function)(int) = (int (*)(int))(uintptr_t)outer;
-    CHECK(feddurzai_hook_install_with(outer, ADDRESS(more), &original, &options), 0);
-    options.size = (size_t)(outer_end - within);
-    CHECK(feddurzai_hook_install_with(within, ADDRESS(more_other), &original_other, &options), FEDDURZAI_HOOK_OVERLAPS);
-    CHECK(function(1), 8);
-    CHECK(feddurzai_hook_remove(outer), 0);
-    CHECK(function(1), 7);
+    feddurzai_hook_options options = {(size_t)(outer_end - (const uint8_t *)ADDRESS(within)), 0, NULL};
+    CHECK(feddurzai_hook_install(ADDRESS(outer), ADDRESS(more), &original), 0);
+    CHECK(feddurzai_hook_install_with(ADDRESS(within), ADDRESS(more_other), &original_other, &options), FEDDURZAI_HOOK_OVERLAPS);
+    CHECK(outer(1), 8);
+    CHECK(feddurzai_hook_remove(ADDRESS(outer)), 0);
+    CHECK(outer(1), 7);
+    CHECK(feddurzai_hook_install_with(ADDRESS(within), ADDRESS(more_other), &original_other, &options), 0);
+    CHECK(feddurzai_hook_remove(ADDRESS(within)), 0);
+    CHECK(outer(1), 7);
 }
 
 /* ---- SIGTRAP of the program, and fork */
@@ -560,13 +564,13 @@ static void check_blocked(void)
     end(&task);
     memset(&task, 0, sizeof task);
     start(&task, blocks_questions);
-    CHECK(feddurzai_hook_install(ADDRESS(twice), ADDRESS(more), &original), FEDDURZAI_HOOK_BUSY);
-    CHECK(both(), 10015);
-    CHECK(feddurzai_hook_remove(ADDRESS(twice)), FEDDURZAI_HOOK_MISSING);
+    CHECK(feddurzai_hook_install(ADDRESS(outer), ADDRESS(more), &original), FEDDURZAI_HOOK_BUSY);
+    CHECK(outer(1), 7);
+    CHECK(feddurzai_hook_remove(ADDRESS(outer)), FEDDURZAI_HOOK_MISSING);
     end(&task);
-    CHECK(feddurzai_hook_install(ADDRESS(twice), ADDRESS(more), &original), 0);
-    CHECK(both(), 11015);
-    CHECK(feddurzai_hook_remove(ADDRESS(twice)), 0);
+    CHECK(feddurzai_hook_install(ADDRESS(outer), ADDRESS(more), &original), 0);
+    CHECK(outer(1), 8);
+    CHECK(feddurzai_hook_remove(ADDRESS(outer)), 0);
 }
 
 static atomic_int wrong;
@@ -575,8 +579,8 @@ static void *calls_a_little(void *unused)
 {
     int k;
     for (k = 0; k < 200; k++) {
-        int n = twice(k);
-        if (n != 2 * k && n != 2 * k + 1)
+        int n = outer(k);
+        if (n != k + 6 && n != k + 7)
             atomic_fetch_add(&wrong, 1);
     }
     return unused;
@@ -605,8 +609,8 @@ static void check_short_threads(void)
     int k;
     start(&task, starts_threads);
     for (k = 0; k < 300; k++) {
-        CHECK(feddurzai_hook_install(ADDRESS(twice), ADDRESS(more), &original), 0);
-        CHECK(feddurzai_hook_remove(ADDRESS(twice)), 0);
+        CHECK(feddurzai_hook_install(ADDRESS(outer), ADDRESS(more), &original), 0);
+        CHECK(feddurzai_hook_remove(ADDRESS(outer)), 0);
     }
     end(&task);
     CHECK(wrong, 0);
