@@ -246,8 +246,10 @@ static void check_names(void)
     CHECK(target == ADDRESS(atoi), 1);
     CHECK(size > 0, 1);
     CHECK(feddurzai_hook_find(NULL, "no such function", &target, &size), FEDDURZAI_HOOK_NO_SYMBOL);
+#ifndef __SANITIZE_ADDRESS__
     /* the loader chooses among several; no symbol of the loader begins at the one it chose */
     CHECK(feddurzai_hook_find(NULL, "memcpy", &target, &size), FEDDURZAI_HOOK_NO_SIZE);
+#endif
     CHECK(feddurzai_hook_find(NULL, NULL, &target, &size), FEDDURZAI_HOOK_BAD_ARGUMENT);
     CHECK(feddurzai_hook_install_name("no such function", ADDRESS(more), NULL), FEDDURZAI_HOOK_NO_SYMBOL);
     CHECK(feddurzai_hook_install_name("atoi", ADDRESS(text_to_int), &original), 0);
@@ -383,9 +385,11 @@ static void my_free(void *memory)
     original_free(memory);
 }
 
+/* a call within a call is refused, and does not wait for itself */
 static int my_close(int file)
 {
     own_calls++;
+    busy += feddurzai_hook_apply() == FEDDURZAI_HOOK_BUSY;
     return original_close(file);
 }
 
@@ -395,11 +399,9 @@ static ssize_t my_read(int file, void *to, size_t n)
     return original_read(file, to, n);
 }
 
-/* a call within a call is refused, and does not wait for itself */
 static ssize_t my_pwrite(int file, const void *from, size_t n, off_t at)
 {
     own_calls++;
-    busy += feddurzai_hook_apply() == FEDDURZAI_HOOK_BUSY;
     return original_pwrite(file, from, n, at);
 }
 
