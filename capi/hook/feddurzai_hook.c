@@ -42,10 +42,12 @@
 /* of linux/membarrier.h, which old systems do not have: PRIVATE_EXPEDITED_SYNC_CORE. And of linux/futex.h */
 enum { BARRIER = 1 << 5, REGISTER_BARRIER = 1 << 6, WAIT_PRIVATE = 128, WAKE_PRIVATE = 129 };
 
-/* how often a thread that does not answer is looked for, before the change is refused */
+/* how often a thread that blocks the question is looked for before the change is refused; and how much longer one is
+   waited for that only needs a processor */
 #ifndef FEDDURZAI_HOOK_WAITS
 #define FEDDURZAI_HOOK_WAITS 500
 #endif
+enum { PATIENCE = 20 };
 
 enum {
     PAGE = 4096,
@@ -783,10 +785,9 @@ static int32_t set_handlers(void)
         unsigned slot = atomic_load(&table.old_trap) + 1;
         table.old_traps[slot & 1] = now;
         atomic_store(&table.old_trap, slot);
-        /* a call within the handler of the program may meet an INT3 too; and no question interrupts the handler */
+        /* a call within the handler of the program may meet an INT3 too */
         ours.sa_flags |= SA_NODEFER;
         ours.sa_sigaction = at_trap;
-        sigaddset(&ours.sa_mask, FEDDURZAI_HOOK_SIGNAL);
         if (sigaction(SIGTRAP, &ours, NULL) != 0)
             return FEDDURZAI_HOOK_SIGNAL_USED;
     }
@@ -862,22 +863,28 @@ static int rests_outside(int tid)
     return len <= 0 || (last != NULL && (last[2] == 'Z' || last[2] == 'X'));
 }
 
-/* has ended, or blocks no SIGTRAP: the fifth bit of the mask of blocked signals. A thread that starts another one
-   blocks all signals for a moment, and so does one that starts */
+/* whether a thread blocks a signal now */
+static int blocks_signal(int tid, int signal)
+{
+    char text[2048], *mask;
+    if (read_of_thread(tid, "status", text, sizeof text) <= 0 || (mask = strstr(text, "SigBlk:")) == NULL)
+        return 0;
+    return (int)(strtoull(mask + 7, NULL, 16) >> (signal - 1) & 1);
+}
+
+/* does not block SIGTRAP for long: a thread that starts another one blocks all signals for a moment, and so does one
+   that starts */
 static int takes_traps(int tid, void *unused)
 {
     const struct timespec pause = {0, 1000000L};
-    char text[2048], *mask;
     int tries;
     (void)unused;
-    for (tries = 0; tries < TRIES; tries++) {
-        if (read_of_thread(tid, "status", text, sizeof text) <= 0 || (mask = strstr(text, "SigBlk:")) == NULL)
-            return 1;
-        if ((strtoull(mask + 7, NULL, 16) >> (SIGTRAP - 1) & 1) == 0)
-            return 1;
+    for (tries = 0; blocks_signal(tid, SIGTRAP); tries++) {
+        if (tries == TRIES)
+            return 0;
         nanosleep(&pause, NULL);
     }
-    return 0;
+    return 1;
 }
 
 static int count_thread(int tid, void *with)
@@ -955,6 +962,7 @@ static int32_t wait_for_answers(void)
     int waits = 0, late = 0;
     for (;;) {
         uint32_t answers = atomic_load(&table.answers), k, left = 0;
+        int blocked = 0;
         for (k = 0; k < table.asked_count; k++) {
             enum answer answer = answer_of(&asked[k]);
             if (answer == INSIDE)
@@ -963,14 +971,17 @@ static int32_t wait_for_answers(void)
                 ask(&asked[k], k);
             else if (answer == ASKED && late && rests_outside(asked[k].tid))
                 atomic_store(&asked[k].stamp, table.question * 4 + OUTSIDE);
-            left += answer_of(&asked[k]) != OUTSIDE;
+            if (answer_of(&asked[k]) == OUTSIDE)
+                continue;
+            left++;
+            blocked = blocked || (late && blocks_signal(asked[k].tid, FEDDURZAI_HOOK_SIGNAL));
         }
         if (left == 0)
             return 0;
-        if (waits == FEDDURZAI_HOOK_WAITS)
+        waits += !late ? 0 : blocked ? PATIENCE : 1;
+        if (waits >= FEDDURZAI_HOOK_WAITS * PATIENCE)
             return FEDDURZAI_HOOK_BUSY;
         late = syscall(SYS_futex, &table.answers, WAIT_PRIVATE, answers, &pause, NULL, 0) != 0 && errno == ETIMEDOUT;
-        waits += late;
     }
 }
 
@@ -1371,6 +1382,9 @@ int32_t feddurzai_hook_install_with(void *target, void *replacement, void *origi
     int cancel;
     if (options != NULL)
         with = *options;
+    memset(&parts, 0, sizeof parts);
+    if (with.parts != NULL)
+        *with.parts = parts;
     if (target == NULL || replacement == NULL || target == replacement)
         return FEDDURZAI_HOOK_BAD_ARGUMENT;
     /* before its file is compared with its bytes; and without the lock, since the loader has one too */
@@ -1384,7 +1398,6 @@ int32_t feddurzai_hook_install_with(void *target, void *replacement, void *origi
     said = enter(&cancel);
     if (said < 0)
         return said;
-    memset(&parts, 0, sizeof parts);
     code = own_code(job.target, job.len);
     job.code = code;
     job.flags = with.flags;

@@ -135,7 +135,10 @@ int32_t feddurzai_hook_make(uint32_t bits, uint64_t ip, const uint8_t *code, siz
  */
 int32_t feddurzai_hook_install(void *target, void *replacement, void *original);
 
-/* The same for a function that the loader finds by its name, as dlsym(RTLD_DEFAULT, name) does. */
+/*
+ * The same for a function that the loader finds by its name, as dlsym(RTLD_DEFAULT, name) does. In a program that is
+ * not position-independent, the address of a library's function may be that of a stub, so give the name.
+ */
 int32_t feddurzai_hook_install_name(const char *name, void *replacement, void *original);
 
 /* What feddurzai_hook_install_with takes besides. All zeros is what feddurzai_hook_install does. */
