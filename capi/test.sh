@@ -99,14 +99,17 @@ tries_nulls() {
     say "$backend: $(cat "$work/nulls.log") ($1 $2, $sanitizers)"
 }
 
-# hooked NAME SOURCE OPTIONS..: compiles a program with the hooking library and runs it; its output goes to $work/NAME.log
+# hooked NAME SOURCE OPTIONS..: compiles a program with the hooking library and runs it with the words $words; its output goes to
+# $work/NAME.log
+words=
 hooked() {
     name=$1
     source=$2
     shift 2
     gcc -std=gnu11 $warn -pthread -I"$here" -I"$here/hook" "$@" "$source" "$here/hook/feddurzai_hook.c" "$out/libfeddurzai.a" -ldl -o "$out/$name" 2>"$work/cc.log" \
         || die_with "$work/cc.log" "$backend: $name was not compiled: the log is above"
-    "$out/$name" >"$work/$name.log" 2>&1 || die_with "$work/$name.log" "$backend: $name failed"
+    # shellcheck disable=SC2086
+    "$out/$name" $words >"$work/$name.log" 2>&1 || die_with "$work/$name.log" "$backend: $name failed"
 }
 
 # tries_hooks: the hooking library, its examples and its tests
@@ -117,9 +120,11 @@ tries_hooks() {
         hooked $name "$here/examples/$name.c" -O2
         say "$backend: examples/$name.c: $(sed -n 's/\(functions hooked\) at once.*/\1/p' "$work/$name.log" | paste -sd, -); $(tail -1 "$work/$name.log")"
     done
-    # code is written through /proc/self/mem, and then by page rights alone
+    # code is written through /proc/self/mem, and then by page rights alone; ten thousand hooks once, else a thousand
     for way in "" -DFEDDURZAI_HOOK_BY_RIGHTS; do
+        [ "$backend$way" = llvm ] || words=1000
         hooked hook_threads "$here/examples/hook_threads.c" -O2 $way
+        words=
         say "$backend: examples/hook_threads.c${way:+, $way}: $(paste -sd ';' "$work/hook_threads.log" | sed 's/;/; /g')"
         hooked hooks "$here/tests/hooks.c" -O2 -DFEDDURZAI_HOOK_WAITS=100 $way
         say "$backend: $(cat "$work/hooks.log")${way:+ ($way)}"
