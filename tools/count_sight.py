@@ -64,7 +64,7 @@ def counts_of(function: Function) -> Set[str]:
         counts.add("whole sight")
     else:
         starts = {each.start for each in reached}
-        missed = (at for at in range(taken, len(function.code)) if at not in starts)
+        missed = (at for at in range(len(function.code)) if at not in starts)
         if any(0 < branch.to < taken for at in missed for branch in branch_at(function, at)):
             counts.add("a suspect")
     behind = [each.start for each in reached if each.start >= taken and each.kind in BRANCHES]
