@@ -68,6 +68,14 @@ static uint64_t address_of(const void *pointer)
     return (uint64_t)(uintptr_t)pointer;
 }
 
+/* code at an address; the compiler must not take it that code does not change */
+static const uint8_t *code_at(uint64_t address)
+{
+    const uint8_t *code = (const uint8_t *)(uintptr_t)address;
+    __asm__ volatile("" : "+r"(code) : : "memory");
+    return code;
+}
+
 static uint64_t distance(uint64_t a, uint64_t b)
 {
     return a < b ? b - a : a - b;
@@ -440,7 +448,7 @@ static int look_into(struct dl_phdr_info *info, size_t unused, void *with)
     size = size_in_file(map, len, address);
     /* another file may have taken its place since: then the bytes differ */
     bytes = part_of(map, len, address - segment->p_vaddr + segment->p_offset, 1, size == 0 ? 1 : size);
-    if (size > 0 && bytes != NULL && memcmp(bytes, (const void *)(uintptr_t)wanted->target, (size_t)size) == 0)
+    if (size > 0 && bytes != NULL && memcmp(bytes, code_at(wanted->target), (size_t)size) == 0)
         wanted->size = size;
     munmap(map, len);
     return 1;
@@ -1040,7 +1048,7 @@ static int32_t check_due(struct hook *only, int *count, int *alone, int *asks)
     *count = *asks = 0;
     *alone = 1;
     while ((hook = next_due(&walk, only)) != NULL) {
-        const void *target = (const void *)(uintptr_t)atomic_load(&hook->target);
+        const uint8_t *target = code_at(atomic_load(&hook->target));
         if (!hook->stuck && memcmp(target, bytes_of(hook, state_before(hook)), (size_t)hook->parts.detour.taken) != 0)
             return FEDDURZAI_HOOK_CHANGED;
         ++*count;
@@ -1215,7 +1223,7 @@ static uint8_t *own_code(uint64_t target, size_t len)
     struct hook *hook;
     if (code == NULL)
         return NULL;
-    memcpy(code, (const void *)(uintptr_t)target, len);
+    memcpy(code, code_at(target), len);
     while ((hook = next_hook(&walk)) != NULL) {
         uint64_t at = atomic_load(&hook->target), k;
         if (atomic_load(&hook->state) == GONE || atomic_load(&hook->state) == OFF)
@@ -1293,7 +1301,7 @@ static int32_t make_new(const struct job *job, int far, feddurzai_hook_parts *pa
 
 static int same_bytes(uint64_t place, const feddurzai_hook_parts *parts)
 {
-    return memcmp((const void *)(uintptr_t)place, parts->trampoline, (size_t)parts->detour.bytes) == 0;
+    return memcmp(code_at(place), parts->trampoline, (size_t)parts->detour.bytes) == 0;
 }
 
 /* makes a hook: with the trampoline that the function had before, `kept`, if it is the same; else with a new one */

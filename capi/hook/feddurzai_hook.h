@@ -131,7 +131,7 @@ int32_t feddurzai_hook_make(uint32_t bits, uint64_t ip, const uint8_t *code, siz
  *    the replacement. Calling it is calling the original function, also after the hook is disabled or removed.
  *
  * The trampoline is within 2 gigabytes of the function if there is a free page, and the patch has 5 bytes. Else it has
- * 14 bytes.
+ * 14 bytes, unless the replacement is within reach.
  */
 int32_t feddurzai_hook_install(void *target, void *replacement, void *original);
 

@@ -122,7 +122,7 @@ static void check_places(void)
 
 /* ---- hooks of functions of this program */
 
-#define FUNCTION __attribute__((noipa, noinline))
+#define FUNCTION __attribute__((noinline))
 
 /* two functions in one: the second begins within the bytes that a hook of the first overwrites */
 int outer(int n), within(int n);
@@ -161,10 +161,13 @@ static int more_other(int n)
     return original_other(n) + 100;
 }
 
+/* the compiler must not know what a call returns, nor that two calls return the same */
+static int (*volatile call_twice)(int) = twice, (*volatile call_thrice)(int) = thrice, (*volatile call_outer)(int) = outer;
+
 /* the values of both functions, each called with 5 */
 static int both(void)
 {
-    return twice(5) * 1000 + thrice(5);
+    return call_twice(5) * 1000 + call_thrice(5);
 }
 
 static void check_one(void)
@@ -259,18 +262,20 @@ static void check_names(void)
 }
 
 /* writes a byte over code, as another hook library might */
-static void poke(void *target, uint8_t byte)
+static void poke(volatile uint8_t *target, uint8_t byte)
 {
     uint8_t *page = (uint8_t *)((uintptr_t)target & ~(uintptr_t)4095);
     CHECK(mprotect(page, 4096, PROT_READ | PROT_WRITE | PROT_EXEC), 0);
-    *(uint8_t *)target = byte;
+    *target = byte;
     CHECK(mprotect(page, 4096, PROT_READ | PROT_EXEC), 0);
 }
 
 static void check_refusals(void)
 {
     feddurzai_hook_options options = {64, 0, NULL};
-    uint8_t *code = ADDRESS(twice), byte;
+    /* a compiler may take it that code does not change */
+    volatile uint8_t *code = ADDRESS(twice);
+    uint8_t byte;
     CHECK(feddurzai_hook_install(NULL, ADDRESS(more), NULL), FEDDURZAI_HOOK_BAD_ARGUMENT);
     CHECK(feddurzai_hook_install(ADDRESS(twice), NULL, NULL), FEDDURZAI_HOOK_BAD_ARGUMENT);
     CHECK(feddurzai_hook_install(ADDRESS(twice), ADDRESS(twice), NULL), FEDDURZAI_HOOK_BAD_ARGUMENT);
@@ -303,12 +308,12 @@ static void check_overlaps(void)
     feddurzai_hook_options options = {(size_t)(outer_end - (const uint8_t *)ADDRESS(within)), 0, NULL};
     CHECK(feddurzai_hook_install(ADDRESS(outer), ADDRESS(more), &original), 0);
     CHECK(feddurzai_hook_install_with(ADDRESS(within), ADDRESS(more_other), &original_other, &options), FEDDURZAI_HOOK_OVERLAPS);
-    CHECK(outer(1), 8);
+    CHECK(call_outer(1), 8);
     CHECK(feddurzai_hook_remove(ADDRESS(outer)), 0);
-    CHECK(outer(1), 7);
+    CHECK(call_outer(1), 7);
     CHECK(feddurzai_hook_install_with(ADDRESS(within), ADDRESS(more_other), &original_other, &options), 0);
     CHECK(feddurzai_hook_remove(ADDRESS(within)), 0);
-    CHECK(outer(1), 7);
+    CHECK(call_outer(1), 7);
 }
 
 /* ---- SIGTRAP of the program, and fork */
@@ -567,11 +572,11 @@ static void check_blocked(void)
     memset(&task, 0, sizeof task);
     start(&task, blocks_questions);
     CHECK(feddurzai_hook_install(ADDRESS(outer), ADDRESS(more), &original), FEDDURZAI_HOOK_BUSY);
-    CHECK(outer(1), 7);
+    CHECK(call_outer(1), 7);
     CHECK(feddurzai_hook_remove(ADDRESS(outer)), FEDDURZAI_HOOK_MISSING);
     end(&task);
     CHECK(feddurzai_hook_install(ADDRESS(outer), ADDRESS(more), &original), 0);
-    CHECK(outer(1), 8);
+    CHECK(call_outer(1), 8);
     CHECK(feddurzai_hook_remove(ADDRESS(outer)), 0);
 }
 
@@ -581,7 +586,7 @@ static void *calls_a_little(void *unused)
 {
     int k;
     for (k = 0; k < 200; k++) {
-        int n = outer(k);
+        int n = call_outer(k);
         if (n != k + 6 && n != k + 7)
             atomic_fetch_add(&wrong, 1);
     }
