@@ -34,7 +34,10 @@
 extern "C" {
 #endif
 
-/* The signal that asks a thread where it is. Compile feddurzai_hook.c with -DFEDDURZAI_HOOK_SIGNAL=.. for another. */
+/*
+ * The signal that asks a thread where it is. Compile feddurzai_hook.c with -DFEDDURZAI_HOOK_SIGNAL=.. for another, and
+ * with -DFEDDURZAI_HOOK_BY_RIGHTS to write by mprotect alone, never through /proc/self/mem.
+ */
 #ifndef FEDDURZAI_HOOK_SIGNAL
 #define FEDDURZAI_HOOK_SIGNAL (SIGRTMAX - 1)
 #endif
