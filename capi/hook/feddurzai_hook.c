@@ -29,6 +29,7 @@
 #include <sys/mman.h>
 #include <sys/stat.h>
 #include <sys/syscall.h>
+#include <sys/uio.h>
 #include <time.h>
 #include <ucontext.h>
 #include <unistd.h>
@@ -55,6 +56,8 @@ enum {
     BLOCKS = AREA / 16,     /* the most trampolines there */
     HOOKS_A_CHUNK = 32,
     INT3 = 0xcc,
+    STACK = 65536,          /* bytes of a stack that are searched for addresses of taken instructions, */
+    PIECE = 512,            /* so many at once */
     WAIT_MS = 10,           /* how long a thread has to answer before it is looked for otherwise */
     TRIES = 100             /* how often a thread that blocks SIGTRAP is looked at, once a millisecond */
 };
@@ -303,6 +306,7 @@ static struct {
     _Atomic(uint32_t) room;
     uint32_t asked_count, question;
     _Atomic(uint32_t) answers;          /* a futex: the number of answers so far */
+    _Atomic(uint64_t) first, last;      /* all bytes that are being taken are between these addresses */
     _Atomic(uint64_t) traps, moved;     /* calls that met an INT3 of a change; threads moved out of taken bytes */
     /* what the program does at SIGTRAP: the newer of the two, by the lowest bit */
     struct sigaction old_traps[2];
@@ -680,12 +684,18 @@ static void serialize(void)
 /* ---- the two signal handlers -------------------------------------------------------------------------------- */
 
 /* a system call without a function of the C library, which may be hooked, and without errno */
-static long call_system(long number, long a, long b, long c, long d)
+static long call_system(long number, long a, long b, long c, long d, long e)
 {
-    register long r10 __asm__("r10") = d;
+    register long r10 __asm__("r10") = d, r8 __asm__("r8") = e, r9 __asm__("r9") = 0;
     long result;
-    __asm__ volatile("syscall" : "=a"(result) : "a"(number), "D"(a), "S"(b), "d"(c), "r"(r10) : "rcx", "r11", "memory");
+    __asm__ volatile("syscall" : "=a"(result) : "a"(number), "D"(a), "S"(b), "d"(c), "r"(r10), "r"(r8), "r"(r9)
+        : "rcx", "r11", "memory");
     return result;
+}
+
+static int thread_id(void)
+{
+    return (int)call_system(SYS_gettid, 0, 0, 0, 0, 0);
 }
 
 /* gives a SIGTRAP that no hook caused to whoever had the signal before */
@@ -701,7 +711,7 @@ static void pass_on(int signal, siginfo_t *info, void *context)
         /* the kernel ends the program at an INT3 that is ignored, too */
         struct sigaction end = {.sa_handler = SIG_DFL};
         sigaction(signal, &end, NULL);
-        call_system(SYS_tgkill, call_system(SYS_getpid, 0, 0, 0, 0), call_system(SYS_gettid, 0, 0, 0, 0), signal, 0);
+        call_system(SYS_tgkill, call_system(SYS_getpid, 0, 0, 0, 0, 0), thread_id(), signal, 0, 0);
     }
 }
 
@@ -757,20 +767,60 @@ static enum answer move_out(greg_t *rip)
     return OUTSIDE;
 }
 
+/* whether an address is that of a taken instruction behind the first, of a hook that is being enabled */
+static int is_taken(uint64_t address)
+{
+    struct walk walk = {NULL, 0};
+    struct hook *hook;
+    int k;
+    while ((hook = next_hook(&walk)) != NULL) {
+        uint64_t at = atomic_load(&hook->state) == TURNING_ON ? inside_of(hook, address) : 0;
+        for (k = 1; at != 0 && k < hook->parts.count; k++)
+            if (hook->parts.taken_at[k] == at)
+                return 1;
+    }
+    return 0;
+}
+
+/*
+ * Whether a stack has such an address, from its lowest word on and as far as it can be read: the thread will return
+ * there, from a handler of another signal or from a call that is taken.
+ */
+static int returns_inside(uint64_t stack)
+{
+    uint64_t words[PIECE / 8], at = (stack + 7) / 8 * 8;
+    uint64_t first = atomic_load(&table.first), last = atomic_load(&table.last);
+    long pid = call_system(SYS_getpid, 0, 0, 0, 0, 0);
+    while (at < stack + STACK) {
+        uint64_t k, len = PIECE - at % PIECE;
+        struct iovec to = {words, len}, from = {(void *)(uintptr_t)at, len};
+        if (call_system(SYS_process_vm_readv, pid, (long)(uintptr_t)&to, 1, (long)(uintptr_t)&from, 1) != (long)len)
+            return 0;
+        for (k = 0; k < len / 8; k++)
+            if (words[k] > first && words[k] < last && is_taken(words[k]))
+                return 1;
+        at += len;
+    }
+    return 0;
+}
+
 /* a thread that is asked moves itself out of taken bytes, and answers. The value has the number of the question, and
    that of the thread in the array */
 static void at_question(int signal, siginfo_t *info, void *context)
 {
-    enum answer answer = move_out(&((ucontext_t *)context)->uc_mcontext.gregs[REG_RIP]);
+    greg_t *registers = ((ucontext_t *)context)->uc_mcontext.gregs;
+    enum answer answer = move_out(&registers[REG_RIP]);
     uint64_t value = (uint64_t)(uintptr_t)info->si_value.sival_ptr;
     uint32_t number = (uint32_t)value, stamp = (uint32_t)(value >> 32) * 4 + ASKED;
     (void)signal;
     if (info->si_code != SI_QUEUE || number >= atomic_load(&table.room))
         return;
+    if (answer == OUTSIDE && returns_inside((uint64_t)registers[REG_RSP]))
+        answer = INSIDE;
     /* nothing happens if the question is an older one */
     atomic_compare_exchange_strong(&atomic_load(&table.asked)[number].stamp, &stamp, stamp - ASKED + answer);
     atomic_fetch_add(&table.answers, 1);
-    call_system(SYS_futex, (long)(uintptr_t)&table.answers, WAKE_PRIVATE, INT_MAX, 0);
+    call_system(SYS_futex, (long)(uintptr_t)&table.answers, WAKE_PRIVATE, INT_MAX, 0, 0);
 }
 
 /* installs both handlers, or installs them again if the program has set others since */
@@ -793,9 +843,11 @@ static int32_t set_handlers(void)
         unsigned slot = atomic_load(&table.old_trap) + 1;
         table.old_traps[slot & 1] = now;
         atomic_store(&table.old_trap, slot);
-        /* a call within the handler of the program may meet an INT3 too */
+        /* a call within the handler of the program may meet an INT3 too. No question comes while an address behind an
+           INT3 is on the stack: it may be that of a taken instruction */
         ours.sa_flags |= SA_NODEFER;
         ours.sa_sigaction = at_trap;
+        sigaddset(&ours.sa_mask, FEDDURZAI_HOOK_SIGNAL);
         if (sigaction(SIGTRAP, &ours, NULL) != 0)
             return FEDDURZAI_HOOK_SIGNAL_USED;
     }
@@ -855,20 +907,28 @@ static int is_inside(uint64_t address)
 }
 
 /*
- * Whether a thread is outside the taken bytes without being asked: it waits in the kernel, and its address is the last
- * word of the file `syscall`; or it has ended.
+ * Where a thread is, as far as that can be seen without asking it. If it waits in the kernel, its stack and its address
+ * are the last two words of the file `syscall`. No address of a taken instruction can come to its stack later.
  */
-static int rests_outside(int tid)
+static enum answer where_rests(int tid)
 {
-    char text[512], *last;
+    char text[512], again[512], *stack, *last;
     ssize_t len = read_of_thread(tid, "syscall", text, sizeof text);
-    if (len > 0 && text[0] != 'r' && (last = strrchr(text, ' ')) != NULL)
-        return !is_inside(strtoull(last + 1, NULL, 16));
-    if (len > 0)
-        return 0;
+    if (len > 0) {
+        last = strrchr(text, ' ');
+        for (stack = last; stack != NULL && stack > text && stack[-1] != ' '; stack--)
+            ;
+        if (text[0] == 'r' || last == NULL || is_inside(strtoull(last + 1, NULL, 16)))
+            return NOT_ASKED;
+        if (returns_inside(strtoull(stack, NULL, 16)))
+            return INSIDE;
+        read_of_thread(tid, "syscall", again, sizeof again);
+        return strcmp(text, again) == 0 ? OUTSIDE : NOT_ASKED;
+    }
+    /* a thread that has ended is outside */
     len = read_of_thread(tid, "stat", text, sizeof text);
     last = strrchr(text, ')');
-    return len <= 0 || (last != NULL && (last[2] == 'Z' || last[2] == 'X'));
+    return len <= 0 || (last != NULL && (last[2] == 'Z' || last[2] == 'X')) ? OUTSIDE : NOT_ASKED;
 }
 
 /* whether a thread blocks a signal now */
@@ -914,7 +974,7 @@ static int note_thread(int tid, void *with)
 {
     struct asked *asked = atomic_load(&table.asked), *more;
     uint32_t k, room = atomic_load(&table.room);
-    if (tid == (int)call_system(SYS_gettid, 0, 0, 0, 0))
+    if (tid == thread_id())
         return 1;
     for (k = 0; k < table.asked_count; k++)
         if (asked[k].tid == tid)
@@ -943,14 +1003,14 @@ static enum answer answer_of(const struct asked *asked)
     return (enum answer)(atomic_load(&asked->stamp) - table.question * 4);
 }
 
-/* asks a thread, unless it can be seen that it is outside */
+/* asks a thread, unless it can be seen where it is */
 static void ask(struct asked *asked, uint32_t number)
 {
+    enum answer answer = where_rests(asked->tid);
     siginfo_t info;
-    if (rests_outside(asked->tid)) {
-        atomic_store(&asked->stamp, table.question * 4 + OUTSIDE);
+    atomic_store(&asked->stamp, table.question * 4 + answer);
+    if (answer != NOT_ASKED)
         return;
-    }
     memset(&info, 0, sizeof info);
     info.si_signo = FEDDURZAI_HOOK_SIGNAL;
     info.si_code = SI_QUEUE;
@@ -973,16 +1033,15 @@ static int32_t wait_for_answers(void)
         int blocked = 0;
         for (k = 0; k < table.asked_count; k++) {
             enum answer answer = answer_of(&asked[k]);
-            if (answer == INSIDE)
-                return FEDDURZAI_HOOK_BUSY;
-            if (answer == NOT_ASKED)
+            if (answer == NOT_ASKED || (answer == INSIDE && late))
                 ask(&asked[k], k);
-            else if (answer == ASKED && late && rests_outside(asked[k].tid))
-                atomic_store(&asked[k].stamp, table.question * 4 + OUTSIDE);
-            if (answer_of(&asked[k]) == OUTSIDE)
+            else if (answer == ASKED && late && (answer = where_rests(asked[k].tid)) != NOT_ASKED)
+                atomic_store(&asked[k].stamp, table.question * 4 + answer);
+            answer = answer_of(&asked[k]);
+            if (answer == OUTSIDE)
                 continue;
             left++;
-            blocked = blocked || (late && blocks_signal(asked[k].tid, FEDDURZAI_HOOK_SIGNAL));
+            blocked = blocked || (late && (answer == INSIDE || blocks_signal(asked[k].tid, FEDDURZAI_HOOK_SIGNAL)));
         }
         if (left == 0)
             return 0;
@@ -991,6 +1050,23 @@ static int32_t wait_for_answers(void)
             return FEDDURZAI_HOOK_BUSY;
         late = syscall(SYS_futex, &table.answers, WAIT_PRIVATE, answers, &pause, NULL, 0) != 0 && errno == ETIMEDOUT;
     }
+}
+
+/* notes between which addresses all bytes are that hooks take which are being enabled */
+static void note_range(void)
+{
+    struct walk walk = {NULL, 0};
+    uint64_t first = UINT64_MAX, last = 0;
+    struct hook *hook;
+    while ((hook = next_hook(&walk)) != NULL) {
+        uint64_t target = atomic_load(&hook->target);
+        if (atomic_load(&hook->state) != TURNING_ON)
+            continue;
+        first = target < first ? target : first;
+        last = target + hook->parts.detour.taken > last ? target + hook->parts.detour.taken : last;
+    }
+    atomic_store(&table.first, first);
+    atomic_store(&table.last, last);
 }
 
 /*
@@ -1003,6 +1079,7 @@ static int32_t ask_threads(void)
     int fresh;
     table.question++;
     table.asked_count = 0;
+    note_range();
     do {
         fresh = 0;
         if (!each_thread(note_thread, &fresh))

@@ -81,7 +81,7 @@ enum {
 enum {
     FEDDURZAI_HOOK_ALLOW_CALLS = 1,     /* a CALL may be taken. The callee then sees a return address in the trampoline:
                                            exceptions and unwinders do not pass it, and a thunk that returns its own
-                                           address is wrong. No thread may be in that call when the hook is installed */
+                                           address is wrong. The calling thread must not be in that call */
     FEDDURZAI_HOOK_ALLOW_LOOPS = 2,     /* a branch to the start may exist, and reaches the replacement each time */
     FEDDURZAI_HOOK_NEED_SIGHT = 4,      /* refuse what control cannot be followed through (FEDDURZAI_HOOK_UNSEEN) */
     FEDDURZAI_HOOK_DISABLED = 8,        /* install the hook, but leave it disabled */

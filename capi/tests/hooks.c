@@ -480,12 +480,14 @@ extern const uint8_t reads_end[];
 __asm__(
     ".text\n"
     ".balign 16\n"
+    ".type reads, @function\n"
     "reads:\n"
     "    xor %eax, %eax\n"
     "    syscall\n"
     "    lea 7(%rax), %rax\n"
     "    ret\n"
-    "reads_end:\n");
+    "reads_end:\n"
+    ".size reads, reads_end - reads\n");
 
 static long (*original_reads)(int, void *, long);
 
@@ -531,6 +533,88 @@ static void check_waiting(void)
     CHECK(reads(first.pipe[0], &byte, 1), 8);
     close(first.pipe[0]);
     close(first.pipe[1]);
+}
+
+/* a function whose first instruction is a call: with two bytes, so that the address behind it is taken too */
+long calls(int file, void *to, long n, long (*f)(int, void *, long));
+__asm__(
+    ".text\n"
+    ".type calls, @function\n"
+    "calls:\n"
+    "    call *%rcx\n"
+    "    lea 5(%rax), %rax\n"
+    "    ret\n"
+    ".size calls, . - calls\n");
+
+static long (*original_calls)(int, void *, long, long (*)(int, void *, long));
+
+static long my_calls(int file, void *to, long n, long (*f)(int, void *, long))
+{
+    return original_calls(file, to, n, f) + 100;
+}
+
+static void *calls_once(void *with)
+{
+    struct task *task = with;
+    char byte;
+    atomic_store(&task->ready, 1);
+    task->result = calls(task->pipe[0], &byte, 1, reads);
+    return NULL;
+}
+
+/* a thread that is in a call that is taken will return to the taken bytes */
+static void check_call(void)
+{
+    feddurzai_hook_options options = {0, FEDDURZAI_HOOK_ALLOW_CALLS, NULL};
+    struct task task = {0}, second = {0};
+    start(&task, calls_once);
+    let_it_wait();
+    CHECK(feddurzai_hook_install(ADDRESS(calls), ADDRESS(my_calls), &original_calls), FEDDURZAI_HOOK_CALL);
+    CHECK(feddurzai_hook_install_with(ADDRESS(calls), ADDRESS(my_calls), &original_calls, &options), FEDDURZAI_HOOK_BUSY);
+    end(&task);
+    CHECK(task.result, 13);
+    CHECK(feddurzai_hook_install_with(ADDRESS(calls), ADDRESS(my_calls), &original_calls, &options), 0);
+    start(&second, calls_once);
+    let_it_wait();
+    /* it returns to the trampoline, which stays */
+    CHECK(feddurzai_hook_remove(ADDRESS(calls)), 0);
+    end(&second);
+    CHECK(second.result, 113);
+}
+
+static int handler_waits[2];
+
+/* a handler of another signal, which waits before it returns */
+static void waits(int signal)
+{
+    char byte;
+    (void)signal;
+    if (read(handler_waits[0], &byte, 1) != 1)
+        abort();
+}
+
+/* a handler that interrupted the taken bytes will return there: the change is refused until it has */
+static void check_handler(void)
+{
+    struct sigaction wait = {.sa_handler = waits, .sa_flags = SA_RESTART};
+    uint64_t traps, moved, moved_before;
+    struct task task = {0};
+    feddurzai_hook_counts(&traps, &moved_before);
+    CHECK(pipe(handler_waits), 0);
+    CHECK(sigaction(SIGUSR1, &wait, NULL), 0);
+    start(&task, reads_once);
+    let_it_wait();
+    CHECK(pthread_kill(task.thread, SIGUSR1), 0);
+    let_it_wait();
+    CHECK(feddurzai_hook_install(ADDRESS(reads), ADDRESS(my_reads), &original_reads), FEDDURZAI_HOOK_BUSY);
+    CHECK(write(handler_waits[1], "x", 1), 1);
+    let_it_wait();
+    CHECK(feddurzai_hook_install(ADDRESS(reads), ADDRESS(my_reads), &original_reads), 0);
+    feddurzai_hook_counts(&traps, &moved);
+    CHECK(moved - moved_before, 1);
+    end(&task);
+    CHECK(task.result, 8);
+    CHECK(feddurzai_hook_remove(ADDRESS(reads)), 0);
 }
 
 static void block(int signal)
@@ -636,6 +720,8 @@ int main(void)
     check_traps();
     check_own_calls();
     check_waiting();
+    check_call();
+    check_handler();
     check_blocked();
     check_short_threads();
     printf("%d checks of hooks, %d failed\n", tests, failures);
