@@ -3,9 +3,10 @@
 #
 #   capi/install.sh PREFIX [FOLDER]
 #
-#   PREFIX/include/feddurzai.h
+#   PREFIX/include/feddurzai.h, feddurzai_hook.h
 #   PREFIX/lib/libfeddurzai.a, libfeddurzai.so, libfeddurzai.so.INTERFACE, libfeddurzai.so.INTERFACE.VERSION
 #   PREFIX/lib/pkgconfig/feddurzai.pc
+#   PREFIX/share/feddurzai/feddurzai_hook.c     hooks in the running program, to be compiled with it
 #   PREFIX/share/feddurzai/python       the Python package: pip installs this folder, and PYTHONPATH may name it
 #   PREFIX/share/feddurzai/gdb.py       the commands for GDB
 #
@@ -53,12 +54,12 @@ share=$to/share/feddurzai
 libdir=${LIBDIR:-lib}
 file=libfeddurzai.so.$interface.$version
 mkdir -p "$to/include" "$to/$libdir/pkgconfig" "$share/python/feddurzai/inspector"
-install -m 644 "$here/feddurzai.h" "$to/include/"
+install -m 644 "$here/feddurzai.h" "$here/hook/feddurzai_hook.h" "$to/include/"
 install -m 644 "$from/libfeddurzai.a" "$to/$libdir/"
 install -m 755 "$from/libfeddurzai.so" "$to/$libdir/$file"
 ln -sf "$file" "$to/$libdir/libfeddurzai.so.$interface"
 ln -sf "libfeddurzai.so.$interface" "$to/$libdir/libfeddurzai.so"
-install -m 644 "$here/gdb.py" "$share/"
+install -m 644 "$here/gdb.py" "$here/hook/feddurzai_hook.c" "$share/"
 install -m 644 "$here/python/pyproject.toml" "$here/python/backend.py" "$share/python/"
 install -m 644 "$here"/python/feddurzai/*.py "$here/python/feddurzai/py.typed" "$share/python/feddurzai/"
 install -m 644 "$here"/python/feddurzai/inspector/*.py "$share/python/feddurzai/inspector/"
@@ -66,6 +67,7 @@ cat >"$to/$libdir/pkgconfig/feddurzai.pc" <<END_OF_PC
 prefix=$prefix
 includedir=\${prefix}/include
 libdir=\${prefix}/$libdir
+hook=\${prefix}/share/feddurzai/feddurzai_hook.c
 
 Name: feddurzai
 Description: Decodes, encodes, prints, analyses and relocates x86 machine code

@@ -1,14 +1,14 @@
 #!/bin/sh
 # Builds the C library with both compilers of the kit and tests it: the header; the structs; every function with valid and invalid
 # arguments, with NULL, zeros and every buffer that is too small; the examples; the Python package; the GDB commands; the inspector;
-# stack walks; the crate for Rust; the listing of a real file against that of the program; clients of the files that install.sh
+# stack walks; the hooking library, also with threads, C++ exceptions and 32-bit code; the crate for Rust; the listing of a real file against that of the program; clients of the files that install.sh
 # installs; and the packages of packaging/build.sh as far as no root is needed (packaging/test.sh installs them).
 #
 #   capi/test.sh [FILE]
 #
 # FILE is raw 64-bit code. The default is the .text of gdb, of python3 or of the C library: the first that is installed and that
-# objcopy accepts. Required: the kit's `rt`, gcc with g++, binutils, python3. Used if installed: gdb, pkg-config, pip, mypy,
-# pyelftools, Graphviz, cargo, valgrind and dpkg-dev. Each step prints what it ran.
+# objcopy accepts. Required: the kit's `rt`, gcc with g++, binutils, python3. Used if installed: gcc-multilib, clang, gdb, pkg-config,
+# pip, mypy, pyelftools, Graphviz, cargo, valgrind and dpkg-dev. Each step prints what it ran.
 set -eu
 if [ "${1:-}" = --help ]; then
     sed -n '2,/^set/s/^# \{0,1\}//p' "$0"
@@ -42,6 +42,25 @@ sed -n 's/^ \*     //p' "$here/feddurzai.h" | sed 's/^ *//' | while IFS= read -r
     grep -qF -- "$line" "$here/tests/header_examples.c" || die "feddurzai.h has an example that tests/header_examples.c lacks: $line"
 done
 say "header: each line of its examples is in tests/header_examples.c"
+
+# ---- the hooking library by itself
+printf '#include "feddurzai_hook.h"\nint main(void) { return feddurzai_hook_error_text(0) == 0; }\n' >"$work/hook_header.c"
+gcc -std=c99 $warn -I"$here" -I"$here/hook" -c "$work/hook_header.c" -o "$work/hook_header.o"
+said="header C99"
+if command -v g++ >/dev/null; then
+    g++ -x c++ -std=c++11 $warn -I"$here" -I"$here/hook" -c "$work/hook_header.c" -o "$work/hook_header.o"
+    said="$said and C++11"
+fi
+for compiler in gcc clang; do
+    command -v "$compiler" >/dev/null || continue
+    for standard in c11 gnu11; do
+        for level in -O0 -O2; do
+            "$compiler" -std=$standard $level $warn -I"$here" -I"$here/hook" -c "$here/hook/feddurzai_hook.c" -o "$work/hook_library.o"
+        done
+    done
+    said="$said, $compiler"
+done
+say "hooking library: $said, no warning"
 
 # ---- code to list
 file=${1:-}
@@ -78,6 +97,63 @@ tries_nulls() {
         || die_with "$work/cc.log" "$1 $2 did not compile tests/nulls.c: the log is above"
     "$out/nulls" >"$work/nulls.log" || die_with "$work/nulls.log" "$backend: a call with NULL, a zero or a small buffer returned something else than expected"
     say "$backend: $(cat "$work/nulls.log") ($1 $2, $sanitizers)"
+}
+
+# hooked NAME SOURCE OPTIONS..: compiles a program with the hooking library and runs it with the words $words; its output goes to
+# $work/NAME.log
+words=
+hooked() {
+    name=$1
+    source=$2
+    shift 2
+    gcc -std=gnu11 $warn -pthread -I"$here" -I"$here/hook" "$@" "$source" "$here/hook/feddurzai_hook.c" "$out/libfeddurzai.a" -ldl -o "$out/$name" 2>"$work/cc.log" \
+        || die_with "$work/cc.log" "$backend: $name was not compiled: the log is above"
+    # shellcheck disable=SC2086
+    "$out/$name" $words >"$work/$name.log" 2>&1 || die_with "$work/$name.log" "$backend: $name failed"
+}
+
+# tries_hooks: the hooking library, its examples and its tests
+tries_hooks() {
+    hooked hook "$here/examples/hook.c" -O2
+    say "$backend: examples/hook.c: $(tail -1 "$work/hook.log")"
+    for name in hook_many hook_libraries; do
+        hooked $name "$here/examples/$name.c" -O2
+        say "$backend: examples/$name.c: $(sed -n 's/\(functions hooked\) at once.*/\1/p' "$work/$name.log" | paste -sd, -); $(tail -1 "$work/$name.log")"
+    done
+    # code is written through /proc/self/mem, and then by page rights alone; ten thousand hooks once, else a thousand
+    for way in "" -DFEDDURZAI_HOOK_BY_RIGHTS; do
+        [ "$backend$way" = llvm ] || words=1000
+        hooked hook_threads "$here/examples/hook_threads.c" -O2 $way
+        words=
+        say "$backend: examples/hook_threads.c${way:+, $way}: $(paste -sd ';' "$work/hook_threads.log" | sed 's/;/; /g')"
+        hooked hooks "$here/tests/hooks.c" -O2 -DFEDDURZAI_HOOK_WAITS=100 $way
+        say "$backend: $(cat "$work/hooks.log")${way:+ ($way)}"
+    done
+    hooked hooks_sanitized "$here/tests/hooks.c" -O1 $sanitized -DFEDDURZAI_HOOK_WAITS=100
+    say "$backend: $(cat "$work/hooks_sanitized.log") ($sanitizers)"
+    if command -v g++ >/dev/null; then
+        gcc -std=gnu11 -O2 $warn -I"$here" -I"$here/hook" -c "$here/hook/feddurzai_hook.c" -o "$out/feddurzai_hook.o"
+        g++ -std=c++11 -O2 $warn -pthread -I"$here" -I"$here/hook" "$here/tests/hooks_cpp.cpp" "$out/feddurzai_hook.o" "$out/libfeddurzai.a" -ldl -o "$out/hooks_cpp"
+        "$out/hooks_cpp" >"$work/hooks_cpp.log" 2>&1 || die_with "$work/hooks_cpp.log" "$backend: tests/hooks_cpp.cpp failed"
+        say "$backend: $(tail -1 "$work/hooks_cpp.log")"
+    fi
+    tries_hooks32
+}
+
+# tries_hooks32: functions of a 32-bit program, hooked in its file, return what they returned before
+tries_hooks32() {
+    if ! gcc -m32 -std=gnu11 -O2 -fPIC -no-pie $warn "$here/tests/hooked32.c" -o "$out/hooked32" 2>"$work/cc.log" || ! "$out/hooked32" >"$work/before32.log"; then
+        say "$backend: skipped 32-bit hooks: gcc -m32 does not compile (gcc-multilib), or the system does not run its program"
+        return
+    fi
+    gcc -std=gnu11 -O2 $warn -I"$here" -I"$here/hook" "$here/tests/hooks32.c" "$here/hook/feddurzai_hook.c" "$out/libfeddurzai.a" -ldl -o "$out/hooks32"
+    "$out/hooks32" "$out/hooked32" "$out/hooked32.out" >"$work/hooks32.log" || die_with "$work/hooks32.log" "$backend: tests/hooks32.c failed"
+    chmod +x "$out/hooked32.out"
+    "$out/hooked32.out" >"$work/after32.log" || die_with "$work/after32.log" "$backend: tests/hooked32.c: a hook was not called"
+    cmp "$work/before32.log" "$work/after32.log" || die "$backend: a hooked 32-bit function returns something else"
+    # position-independent code whose first call is a thunk
+    grep -q '^pic_sum: refused: a CALL' "$work/hooks32.log" || die_with "$work/hooks32.log" "$backend: tests/hooks32.c: a thunk is not refused"
+    say "$backend: 32-bit code: $(grep -c ': hooked' "$work/hooks32.log") functions hooked, their results are the same; $(grep -c 'refused: a CALL' "$work/hooks32.log") refused for a call of a thunk"
 }
 
 # makes_debugged [-g]: a program to look into. It has a call, a call through the PLT, and bytes at the end of what can be read
@@ -301,13 +377,7 @@ for backend in llvm rattle; do
     done
     say "$backend: examples/disassemble.c lists as the program does, in three styles"
 
-    gcc -std=gnu99 -O2 $warn -I"$here" "$here/examples/hook.c" "$out/libfeddurzai.a" -o "$out/hook"
-    "$out/hook" >"$work/hook.log" || die_with "$work/hook.log" "$backend: examples/hook.c failed"
-    say "$backend: examples/hook.c: $(tail -1 "$work/hook.log")"
-
-    gcc -std=gnu99 -O2 $warn -I"$here" "$here/examples/hook_many.c" "$out/libfeddurzai.a" -ldl -o "$out/hook_many"
-    "$out/hook_many" >"$work/hook_many.log" || die_with "$work/hook_many.log" "$backend: examples/hook_many.c failed"
-    say "$backend: examples/hook_many.c: $(sed -n 's/\(functions hooked\) at once.*/\1/p' "$work/hook_many.log" | paste -sd, -); $(tail -1 "$work/hook_many.log")"
+    tries_hooks
 
     gcc -std=gnu99 -O2 $warn -I"$here" "$here/examples/step.c" "$out/libfeddurzai.a" -o "$out/step"
     "$out/step" >"$work/step.log" || die_with "$work/step.log" "$backend: examples/step.c: a stepped instruction had another result"
@@ -362,6 +432,10 @@ if command -v pkg-config >/dev/null; then
     LD_LIBRARY_PATH=$prefix/lib ./shared "$file" 64 401000 intel | cmp - "$work/program.intel" || die "installed: the client's listing differs"
     gcc -std=c99 -O2 $warn $(pkg-config --cflags feddurzai) disassemble.c "$(pkg-config --variable=libdir feddurzai)/libfeddurzai.a" -o static
     ./static "$file" 64 401000 intel | cmp - "$work/program.intel" || die "installed: the static client's listing differs"
+    cp "$here/examples/hook.c" "$client/"
+    gcc -std=gnu11 -O2 $warn -pthread $(pkg-config --cflags feddurzai) hook.c "$(pkg-config --variable=hook feddurzai)" $(pkg-config --libs feddurzai) -ldl -o hook
+    LD_LIBRARY_PATH=$prefix/lib ./hook >"$work/hook.log" || die_with "$work/hook.log" "installed: the hooking library"
+    say "installed: the hooking library by pkg-config: $(tail -1 "$work/hook.log")"
     say "installed: a client in C by pkg-config, version $(pkg-config --modversion feddurzai), shared and static, lists as the program does"
     if command -v cargo >/dev/null; then
         # a copy of the sources, which stands in no clone

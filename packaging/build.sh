@@ -5,7 +5,7 @@
 #
 #   OUT/feddurzai_VERSION_amd64.deb             the program, its manual page, completion for bash
 #   OUT/libfeddurzaiN_VERSION_amd64.deb         the shared library; N is its interface number, as in the soname
-#   OUT/libfeddurzai-dev_VERSION_amd64.deb      header, static library, feddurzai.pc, examples
+#   OUT/libfeddurzai-dev_VERSION_amd64.deb      headers, static library, feddurzai.pc, the C file of hooks, examples
 #   OUT/python3-feddurzai_VERSION_all.deb       the Python package, GDB's commands, examples
 #   OUT/feddurzai-VERSION-py3-none-manylinux_2_17_x86_64.manylinux2014_x86_64.whl
 #   OUT/feddurzai-VERSION.crate                 the source of the crate for Rust
@@ -151,8 +151,8 @@ library=libfeddurzai$interface
     say
     say "The program and the library are compiled from crates that this kit proved in this logic. The proofs do not cover the kit's"
     say "compiler and its few functions over the C library; the linker; unwind.py, which adds unwind information and changes no byte"
-    say "of code; and strip, which removes local symbols. The header, the Python package, the crate for Rust and the GDB commands are"
-    say "tested but not proved. docs/proofs.md in the sources says what is proved, what is only tested, and what is neither."
+    say "of code; and strip, which removes local symbols. The headers, the hooking library in C, the Python package, the crate for Rust"
+    say "and the GDB commands are tested but not proved. docs/proofs.md in the sources says what is proved, what is only tested, and what is neither."
     say
     say "Checksums of the files as built, before strip:"
     (cd "$programs" && sha256sum listing_program)
@@ -206,7 +206,7 @@ say "libfeddurzai $interface $library (>= $version)" >"$work/$library/DEBIAN/shl
 say "activate-noawait ldconfig" >"$work/$library/DEBIAN/triggers"
 
 package libfeddurzai-dev
-moves libfeddurzai-dev usr/include/feddurzai.h "usr/lib/$multiarch/libfeddurzai.a" "usr/lib/$multiarch/libfeddurzai.so" \
+moves libfeddurzai-dev usr/include/feddurzai.h usr/include/feddurzai_hook.h usr/share/feddurzai/feddurzai_hook.c "usr/lib/$multiarch/libfeddurzai.a" "usr/lib/$multiarch/libfeddurzai.so" \
     "usr/lib/$multiarch/pkgconfig/feddurzai.pc"
 install -D -m 644 -t "$work/libfeddurzai-dev/usr/share/doc/libfeddurzai-dev/examples" "$top"/capi/examples/*.c
 
@@ -339,8 +339,8 @@ Description: x86 decoder, encoder and relocator - files for development
  Feddurzai decodes, encodes, prints and relocates 16, 32 and 64-bit x86 code,
  and makes hooks.
  .
- This package contains the header for C and C++, the static library, the
- pkg-config file, and examples.
+ This package contains the headers for C and C++, the static library, the
+ pkg-config file, the C file of the hooking library, and examples.
 END_OF_FIELDS
 debian python3-feddurzai all python "python3:any, $library (>= $version)" <<'END_OF_FIELDS'
 Suggests: gdb, graphviz, python3-distributed, python3-pyelftools

@@ -178,13 +178,14 @@ int main(void)
     return len != 16;
 }
 END_OF_SOURCE
-# compiles SOURCE OUT shared|static: compiles with the flags of pkg-config
+# compiles SOURCE OUT shared|static: compiles with the flags of pkg-config, and the examples of hooks with the hooking library
 compiles() {
     # shellcheck disable=SC2016
     inside "gcc $1, $3" sh -c '
-        before= after=
+        before= after= hook=
         [ "$2" = shared ] || { before=-Wl,-Bstatic; after=-Wl,-Bdynamic; }
-        gcc -std=gnu99 -O2 -g -Wall -Wextra -Werror $(pkg-config --cflags feddurzai) "$0" \
+        case $0 in */hook*) hook=$(pkg-config --variable=hook feddurzai) ;; esac
+        gcc -std=gnu11 -O2 -g -Wall -Wextra -Werror -pthread $(pkg-config --cflags feddurzai) "$0" $hook \
             $before $(pkg-config --libs feddurzai) $after -ldl -o "$1"' "$1" "$2" "$3"
     if [ "$3" = shared ]; then wanted=1; else wanted=0; fi
     found=$(readelf -W -d "$root$2" | grep -c "NEEDED.*libfeddurzai.so.$interface\]" || true)
@@ -203,6 +204,10 @@ for kind in shared static; do
     inside "hook, $kind" /try/c/hook
     inside "hook_many, $kind" /try/c/hook_many
     many=$(tail -1 "$log")
+    inside "hook_libraries, $kind" /try/c/hook_libraries
+    libraries=$(tail -1 "$log")
+    inside "hook_threads, $kind" /try/c/hook_threads
+    threads=$(tail -1 "$log")
     inside "step, $kind" /try/c/step
     stepped=$(tail -1 "$log")
     inside "unwind, $kind" /try/c/unwind
@@ -213,6 +218,7 @@ for kind in shared static; do
     says '^#[1-9].* feddurzai_move ' "gdb, $kind: the backtrace"
     says '^#[1-9][0-9]* .* main ' "gdb, $kind: the backtrace"
     say "libfeddurzai-dev, $kind: disassemble.c lists like the program; hook.c ran; hook_many.c: $many; step.c: $stepped"
+    say "libfeddurzai-dev, $kind: hook_libraries.c: $libraries; hook_threads.c: $threads"
     say "libfeddurzai-dev, $kind: $walked; the backtrace of gdb goes from malloc through feddurzai_move to main"
 done
 

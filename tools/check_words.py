@@ -7,7 +7,7 @@ Usage, from anywhere in a clone:
   tools/check_words.py --list           prints the refused words with what to write instead
   tools/check_words.py --update-lines   writes the current line counts into the tables of docs/proofs.md, and checks nothing
 
-It reads README.md, the pages of docs/, capi/, bench/ and packaging/ (*.md), the comments of capi/feddurzai.h, the docstrings (/// and //!) of all crates, and
+It reads README.md, the pages of docs/, capi/, bench/ and packaging/ (*.md), the comments of the headers in capi/, the docstrings (/// and //!) of all crates, and
 the lemmas in their proofs. A finding is a line `FILE:LINE: what was found: what to write instead`.
 
 Checked are:
@@ -27,7 +27,7 @@ from pathlib import Path
 ROOT = Path(__file__).resolve().parent.parent
 READING_LIST = "docs/proofs.md"
 DOCUMENTS = ["README.md", "docs/**/*.md", "capi/*.md", "bench/*.md", "packaging/*.md"]
-HEADERS = ["capi/feddurzai.h"]
+HEADERS = ["capi/feddurzai.h", "capi/hook/feddurzai_hook.h"]
 DOCSTRINGS = ["crates/*/src/**/*.rt"]
 LEMMAS = ["crates/*/proofs/**/*.antt"]
 # files of answers, and of names alone

@@ -4,24 +4,22 @@
  * continues through the trampoline; no result may differ. All hooks of a round are in place at once: first with the
  * trampolines near the libraries, with jumps of 5 bytes, then far from them, with jumps of 14.
  *
- * Linux on x86-64; link with `-ldl` before glibc 2.34. Without libz.so.1 its functions are left out. The program prints how
- * many functions it hooked by which jump, and why it could not hook the others. It fails if any result differs.
+ * Linux on x86-64; compile capi/hook/feddurzai_hook.c with it, and link with `-ldl` before glibc 2.34. Without libz.so.1 its
+ * functions are left out. The program prints how many functions it hooked by which jump, and why it could not hook the
+ * others. It fails if any result differs. hook_libraries.c hooks whole libraries.
  */
 #define _GNU_SOURCE
-#include "feddurzai.h"
+#include "feddurzai_hook.h"
 
 #include <dlfcn.h>
-#include <elf.h>
 #include <inttypes.h>
-#include <link.h>
 #include <locale.h>
 #include <stdio.h>
 #include <stdlib.h>
 #include <string.h>
-#include <sys/mman.h>
 #include <wchar.h>
 
-enum { PAGE = 4096, TRAMPOLINE = 256, LEAST_HOOKED = 50 };
+enum { LEAST_HOOKED = 50 };
 
 typedef void (*function)(void);
 
@@ -33,12 +31,10 @@ struct hook {
     const char *library;            /* NULL for this program */
     function hooked;
     size_t len;                     /* the size of the function in bytes */
-    function volatile original;     /* the trampoline */
+    function original;              /* the trampoline */
     unsigned long calls;            /* of the replacement */
     int installed;
-    uint8_t before[FEDDURZAI_MAX_PATCH];
-    uint8_t patch[FEDDURZAI_MAX_PATCH];
-    feddurzai_detour_report report;
+    feddurzai_hook_parts parts;
 };
 
 /* ---- the functions, by their types */
@@ -351,7 +347,8 @@ static uint64_t run_OWN_RET(function f)
 
 #define LIBC_NAME "libc.so.6"
 #define LIBZ_NAME "libz.so.1"
-#define ROW(name, kind, library) {#name, run_##kind, (function)new_##name, library, NULL, 0, NULL, 0, 0, {0}, {0}, {0, 0, 0, 0, 0, 0, 0, 0}},
+#define EMPTY {{0, 0, 0, 0, 0, 0, 0, 0}, 0, 0, 0, 0, {0}, {0}, {0}, 0, 0, {0}, {0}}
+#define ROW(name, kind, library) {#name, run_##kind, (function)new_##name, library, NULL, 0, NULL, 0, 0, EMPTY},
 #define ROW_INT(name) ROW(name, INT, LIBC_NAME)
 #define ROW_LOCALE(name) ROW(name, LOCALE, LIBC_NAME)
 #define ROW_WIDE(name) ROW(name, WIDE, LIBC_NAME)
@@ -374,75 +371,37 @@ static struct hook hooks[HOOKS] = {
     OWN(ROW_OWN)
 };
 
-static uint64_t address_of(const void *pointer)
-{
-    return (uint64_t)(uintptr_t)pointer;
-}
-
-static const uint8_t *code_of(function f)
-{
-    return (const uint8_t *)(uintptr_t)f;
-}
-
 /* finds a function of a library and its size by the library's symbols; none if the loader resolves the symbol (IFUNC) */
 static void look_up(struct hook *hook)
 {
-    void *library = dlopen(hook->library, RTLD_NOW), *symbol = library == NULL ? NULL : dlsym(library, hook->name);
-    Dl_info info;
-    const ElfW(Sym) *entry = NULL;
-    if (symbol == NULL || dladdr1(symbol, &info, (void **)&entry, RTLD_DL_SYMENT) == 0 || entry == NULL || info.dli_saddr != symbol)
+    void *library = dlopen(hook->library, RTLD_NOW), *symbol;
+    size_t len;
+    if (library == NULL || feddurzai_hook_find(library, hook->name, &symbol, &len) < 0)
         return;
     hook->hooked = (function)(uintptr_t)symbol;
-    hook->len = entry->st_size;
+    hook->len = len;
 }
 
-/* writable and executable pages: within reach of an address, or far from all */
-static uint8_t *pages(uint64_t address, size_t len, int far)
+/* installs a hook. Returns 0, or a refusal */
+static int32_t install(struct hook *hook, uint32_t flags)
 {
-    uint64_t step;
-    int k;
-    for (k = 1; k < 6000; k++) {
-        void *got;
-        step = (uint64_t)k * 64 * PAGE;
-        address &= ~(uint64_t)(PAGE - 1);
-        got = mmap((void *)(uintptr_t)(far ? 0x200000000000 + step : address - step), len, PROT_READ | PROT_WRITE | PROT_EXEC,
-            MAP_PRIVATE | MAP_ANONYMOUS | MAP_FIXED_NOREPLACE, -1, 0);
-        if (got != MAP_FAILED)
-            return got;
-    }
-    return NULL;
-}
-
-/* overwrites the first bytes of a function; this program has one thread, which does not run there */
-static void write_code(function f, const uint8_t *from, size_t len)
-{
-    uint8_t *first = (uint8_t *)(uintptr_t)(address_of(code_of(f)) & ~(uint64_t)(PAGE - 1));
-    if (mprotect(first, 2 * PAGE, PROT_READ | PROT_WRITE | PROT_EXEC) != 0) {
-        perror("mprotect");
-        exit(1);
-    }
-    memcpy((void *)(uintptr_t)f, from, len);
-}
-
-/* makes a hook with its trampoline at a place, and installs it. Returns 0, or a refusal */
-static int32_t install(struct hook *hook, uint8_t *place, uint32_t start)
-{
-    int32_t said = feddurzai_detour(64, address_of(code_of(hook->hooked)), code_of(hook->hooked), hook->len,
-        address_of(code_of(hook->replacement)), address_of(place), start, hook->patch, sizeof hook->patch, place, TRAMPOLINE, &hook->report);
-    if (said < 0)
-        return said;
-    hook->original = (function)(uintptr_t)place;
-    hook->calls = 0;
-    hook->installed = 1;
-    memcpy(hook->before, code_of(hook->hooked), (size_t)hook->report.taken);
-    write_code(hook->hooked, hook->patch, (size_t)hook->report.taken);
-    return 0;
+    feddurzai_hook_options options = {hook->len, flags, &hook->parts};
+    int32_t said = feddurzai_hook_install_with(FEDDURZAI_HOOK_ADDRESS(hook->hooked), FEDDURZAI_HOOK_ADDRESS(hook->replacement), &hook->original,
+        &options);
+    hook->installed = said == 0;
+    if (said == 0)
+        hook->calls = 0;
+    return said;
 }
 
 static void remove_hook(struct hook *hook)
 {
-    write_code(hook->hooked, hook->before, (size_t)hook->report.taken);
+    int32_t said = feddurzai_hook_remove(FEDDURZAI_HOOK_ADDRESS(hook->hooked));
     hook->installed = 0;
+    if (said < 0) {
+        printf("%s: cannot remove the hook: %s\n", hook->name, feddurzai_hook_error_text(said));
+        exit(1);
+    }
 }
 
 /* another name of a function that is already hooked is left out */
@@ -455,32 +414,39 @@ static int is_hooked(function f)
     return 0;
 }
 
+/* the refusals of a round, by their cause */
+static struct { int32_t said; int count; } refused[32];
+
+static void count_refusal(int32_t said)
+{
+    int k;
+    for (k = 0; refused[k].count != 0 && refused[k].said != said; k++)
+        ;
+    refused[k].said = said;
+    refused[k].count++;
+}
+
 /* hooks the functions of the libraries, with trampolines near or far. Returns how many, or -1 if any result differs */
-static int round_of(int far, const char *title)
+static int round_of(uint32_t flags, const char *title)
 {
     static uint64_t before[HOOKS];
-    int k, hooked = 0, forms[4] = {0}, refused[23] = {0}, differ = 0;
+    int k, hooked = 0, forms[4] = {0}, differ = 0;
     unsigned long calls = 0;
-    uint8_t *near_libc = NULL, *near_libz = NULL;
+    memset(refused, 0, sizeof refused);
     for (k = 0; k < at_own_branch; k++)
         if (hooks[k].hooked != NULL)
             before[k] = hooks[k].run(hooks[k].hooked);
     for (k = 0; k < at_own_branch; k++) {
         struct hook *hook = &hooks[k];
-        uint8_t **room = strcmp(hook->library, LIBC_NAME) == 0 ? &near_libc : &near_libz;
         int32_t said;
         if (hook->hooked == NULL || is_hooked(hook->hooked))
             continue;
-        if (*room == NULL)
-            *room = pages(address_of(code_of(hook->hooked)), HOOKS * TRAMPOLINE, far);
-        if (*room == NULL)
-            return -1;
-        said = install(hook, *room + k * TRAMPOLINE, FEDDURZAI_START_MOVED);
+        said = install(hook, flags);
         if (said < 0)
-            refused[-said]++;
+            count_refusal(said);
         else {
             hooked++;
-            forms[hook->report.form]++;
+            forms[hook->parts.detour.form]++;
         }
     }
     for (k = 0; k < at_own_branch; k++)
@@ -504,18 +470,17 @@ static int round_of(int far, const char *title)
         }
     printf("%s: %d functions hooked at once, by a near jump %d, by a relay %d, by 14 bytes %d; %lu calls\n", title, hooked,
         forms[FEDDURZAI_DETOUR_NEAR], forms[FEDDURZAI_DETOUR_RELAY], forms[FEDDURZAI_DETOUR_ABSOLUTE], calls);
-    if (hooked < HOOKS)
-        printf("    not hooked: too small %d, ends %d, entered %d, an operand too far %d\n", refused[-FEDDURZAI_SMALL],
-            refused[-FEDDURZAI_ENDS], refused[-FEDDURZAI_ENTERED], refused[-FEDDURZAI_TOO_FAR]);
+    for (k = 0; refused[k].count != 0; k++)
+        printf("    not hooked %d: %s\n", refused[k].count, feddurzai_hook_error_text(refused[k].said));
     return differ == 0 ? hooked : -1;
 }
 
 /* hooks one function of this program, and compares its results */
-static int try_own(int k, uint8_t *place, const char *where, uint32_t start, int32_t want, unsigned long want_calls)
+static int try_own(int k, const char *where, uint32_t flags, int32_t want, unsigned long want_calls)
 {
     struct hook *hook = &hooks[k];
     uint64_t before = hook->run(hook->hooked), hooked = before;
-    int32_t said = install(hook, place, start);
+    int32_t said = install(hook, flags);
     if (said == 0) {
         hooked = hook->run(hook->hooked);
         remove_hook(hook);
@@ -529,17 +494,16 @@ static int try_own(int k, uint8_t *place, const char *where, uint32_t start, int
 
 static int try_owns(void)
 {
-    struct own { int hook; int32_t far; unsigned long calls; } owns[] = {
-        {at_own_branch, 0, 257}, {at_own_loop, 0, 257}, {at_own_rip, FEDDURZAI_TOO_FAR, 257}, {at_own_call, 0, 257},
-        {at_own_jrcxz, 0, 257}, {at_own_ret, 0, 100},
+    struct own { int hook; int32_t far; unsigned long calls; uint32_t flags; } owns[] = {
+        {at_own_branch, 0, 257, 0}, {at_own_loop, 0, 257, 0}, {at_own_rip, FEDDURZAI_TOO_FAR, 257, 0},
+        {at_own_call, 0, 257, FEDDURZAI_HOOK_ALLOW_CALLS}, {at_own_jrcxz, 0, 257, 0}, {at_own_ret, 0, 100, 0},
     };
-    uint8_t *near_place = pages(address_of(own_branch), PAGE, 0), *far_place = pages(0, PAGE, 1);
     size_t k;
     unsigned long loops = 0;
-    int a, left, good = near_place != NULL && far_place != NULL;
+    int a, left, good = 1;
     for (k = 0; good && k < sizeof owns / sizeof *owns; k++) {
-        good = try_own(owns[k].hook, near_place, "near", FEDDURZAI_START_MOVED, 0, owns[k].calls) && good;
-        good = try_own(owns[k].hook, far_place, "far", FEDDURZAI_START_MOVED, owns[k].far, owns[k].calls) && good;
+        good = try_own(owns[k].hook, "near", owns[k].flags, 0, owns[k].calls) && good;
+        good = try_own(owns[k].hook, "far", owns[k].flags | FEDDURZAI_HOOK_FAR, owns[k].far, owns[k].calls) && good;
     }
     if (!good)
         return 0;
@@ -547,12 +511,13 @@ static int try_owns(void)
     for (a = -1; a < 256; a++)
         for (left = a, loops++; (left -= 3) > 0;)
             loops++;
-    good = try_own(at_own_loop, near_place, "near", FEDDURZAI_START_HOOKED, 0, loops);
-    good = try_own(at_own_loop, far_place, "far", FEDDURZAI_START_HOOKED, 0, loops) && good;
-    good = try_own(at_own_entered, near_place, "near", FEDDURZAI_START_MOVED, FEDDURZAI_ENTERED, 0) && good;
-    good = good && hooks[at_own_entered].report.at == 6 && hooks[at_own_entered].report.target == 2;
+    good = try_own(at_own_loop, "near", FEDDURZAI_HOOK_ALLOW_LOOPS, 0, loops);
+    good = try_own(at_own_loop, "far", FEDDURZAI_HOOK_ALLOW_LOOPS | FEDDURZAI_HOOK_FAR, 0, loops) && good;
+    good = try_own(at_own_call, "near", 0, FEDDURZAI_HOOK_CALL, 0) && good;
+    good = try_own(at_own_entered, "near", 0, FEDDURZAI_ENTERED, 0) && good;
+    good = good && hooks[at_own_entered].parts.at == 6 && hooks[at_own_entered].parts.target == 2;
     printf("own: a short branch inside, a loop to the start, an operand at RIP, a call, jrcxz and a single return hooked, near and far;\n"
-           "    far, the operand at RIP is refused; a function whose loop enters its first bytes is refused\n");
+           "    far, the operand at RIP is refused; a function whose loop enters its first bytes is refused, and a call if it is not allowed\n");
     return good;
 }
 
@@ -569,7 +534,7 @@ int main(void)
     OWN(FIND_OWN)
     hooks[at_own_ret].run = run_OWN_RET;
     near_hooked = round_of(0, "near");
-    far_hooked = round_of(1, "far");
+    far_hooked = round_of(FEDDURZAI_HOOK_FAR, "far");
     own = try_owns();
     if (near_hooked < LEAST_HOOKED || far_hooked < 0 || !own) {
         printf("FAILED: %d near, %d far, own %d\n", near_hooked, far_hooked, own);
