@@ -480,18 +480,18 @@ impl InstructionInfo {
 
     fn fill(&mut self, instruction: &Instruction) -> Result<(), Error> {
         let (about, touched) = (instruction.about()?, instruction.touched()?);
-        for (to, found) in self.registers.iter_mut().zip(&touched.registers) {
+        self.register_count = usize::from(touched.register_count);
+        self.memory_count = usize::from(touched.memory_count);
+        for (to, found) in self.registers.iter_mut().zip(&touched.registers).take(self.register_count) {
             to.register = Register::of(found.reg_class, found.reg_number);
             to.access = OpAccess::of(found.access);
         }
-        for (to, found) in self.memory.iter_mut().zip(&touched.memory) {
+        for (to, found) in self.memory.iter_mut().zip(&touched.memory).take(self.memory_count) {
             *to = UsedMemory::of(found);
         }
         for (to, found) in self.accesses.iter_mut().zip(about.access) {
             *to = OpAccess::of(found);
         }
-        self.register_count = usize::from(touched.register_count);
-        self.memory_count = usize::from(touched.memory_count);
         self.flow = FlowControl::of(about.flow);
         self.flags = Flags::of(&touched);
         self.features = CpuidFeatures(touched.features);

@@ -65,6 +65,10 @@ pub struct EncodedBytes {
 }
 
 impl EncodedBytes {
+    /// No bytes.
+    #[cfg(feature = "alloc")]
+    pub(crate) const NONE: EncodedBytes = EncodedBytes { bytes: [0; MAX_LEN], len: 0 };
+
     /// Lets a function of the library write the bytes.
     pub(crate) fn filled(write: impl FnOnce(&mut [u8]) -> i32) -> Result<EncodedBytes, Error> {
         let mut bytes = [0; MAX_LEN];
@@ -663,7 +667,7 @@ impl fmt::Display for Instruction {
     fn fmt(&self, f: &mut fmt::Formatter<'_>) -> fmt::Result {
         let mut text = sys::Text::new();
         let status = Library::get().map_or(-1, |library| library.text(self.bitness(), 0, &self.raw, &mut text));
-        f.pad(if status >= 0 { text.as_str() } else { "(bad)" })
+        f.pad(if status >= 0 { text.as_str() } else { sys::BAD })
     }
 }
 
