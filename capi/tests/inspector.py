@@ -13,6 +13,11 @@ import sys
 import tempfile
 
 PACKAGE, LIBRARY = sys.argv[1:3]
+os.environ["FEDDURZAI_LIBRARY"] = LIBRARY
+sys.path.insert(0, PACKAGE)
+from feddurzai.inspector import needs  # noqa: E402
+from feddurzai.inspector.elf import open_program  # noqa: E402
+
 CC = os.environ.get("CC", "gcc")
 checks = 0
 
@@ -133,6 +138,20 @@ def tries_needs(program, folder):
     check(sum(",damaged" in it or "a damaged ELF file" in it or "ELF file for" in it for it in rows) >= 1, "no row says what is wrong with a bad file")
 
 
+def tries_windows(*programs):
+    """Control is followed through a large section in windows: small windows reach what one window reaches."""
+    for path in programs:
+        program = open_program(path)
+        survey = needs._Survey(program)
+        entries = survey.reached_entries()
+        for items in survey.items:
+            whole = needs.follow(program, items, entries)
+            for most in (16, 17, 64, 1000, len(items.section.code) - 1):
+                found = needs.follow(program, items, entries, max(16, most))
+                where = f"{path}, {items.section.name}, windows of {most} bytes"
+                check(list(found.starts) == list(whole.starts) and found.kinds == whole.kinds, f"{where}: control reaches other places")
+
+
 def tries_hooks(program):
     answers = {it["names"][0]: it for it in json.loads(output("hookable", program, "--json"))}
     check(answers["choose"]["taken"] >= 5 and answers["choose"]["sight"] == "whole", f"choose: {answers['choose']}")
@@ -195,6 +214,7 @@ def main():
             tries_tables(built("wide32", "-m32", "-fno-pie", "-no-pie"), "choose", "32-bit")
         except subprocess.CalledProcessError:
             print("skipped the 32-bit program: this compiler has no -m32")
+        tries_windows(program, fixed)
         tries_hooks(program)
         tries_refusals(program, folder)
         tries_needs(program, folder)

@@ -58,6 +58,11 @@ def key_of(fields: bytes) -> Tuple[int, ...]:
     return (fields[LOW_AT], fields[HIGH_AT], *(fields[at] for at in _KINDS_AT))
 
 
+def code_of(fields: bytes) -> int:
+    """The code of one struct."""
+    return fields[LOW_AT] + 256 * fields[HIGH_AT]
+
+
 def chunks(bits: int, start: int, code: bytes) -> Iterator[Chunk]:
     """The items of some code, from its first byte on."""
     room, count = _Room(), c_size_t()
@@ -122,8 +127,7 @@ def features_of(bits: int, key: Tuple[int, ...], fields: bytes) -> FrozenSet[str
     TZCNT needs none: compilers write `rep bsf` into code for every processor, which runs as BSF without BMI1.
     """
     if (bits, key) not in _FEATURES:
-        code = fields[LOW_AT] + 256 * fields[HIGH_AT]
-        _FEATURES[bits, key] = frozenset() if name_of(code) == "tzcnt" else effects_of(bits, fields).features
+        _FEATURES[bits, key] = frozenset() if name_of(code_of(fields)) == "tzcnt" else effects_of(bits, fields).features
     return _FEATURES[bits, key]
 
 
