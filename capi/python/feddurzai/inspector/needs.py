@@ -189,6 +189,11 @@ class _Survey:
                 waiting += named.get(function.start, ())
         return found
 
+    def all_entries(self, reached: Set[int]) -> Set[int]:
+        """The starts of all known functions, the targets of their jump tables, and some entries that are reached."""
+        cases = {target for targets in self.cases.values() for target in targets}
+        return {it for it in self.program.functions if self.in_code(it)} | cases | reached
+
     def part(self, entries: Optional[Set[int]]) -> Part:
         """What the code needs that control reaches from some addresses; from None, the linear listing."""
         features: Dict[str, Use] = {}
@@ -312,10 +317,8 @@ def needs_of(program: Program) -> Needs:
     survey = _Survey(program)
     functions = {it for it in program.functions if survey.in_code(it)}
     if functions:
-        cases = {target for targets in survey.cases.values() for target in targets}
-        entries = survey.reached_entries() if not program.is_object else functions | cases
-        reached = survey.part(entries)
-        everything = survey.part(functions | entries | cases)
+        entries = survey.reached_entries() if not program.is_object else survey.all_entries(set())
+        reached, everything = survey.part(entries), survey.part(survey.all_entries(entries))
     else:
         reached = everything = survey.part(None)
     resolvers = [it.name for it in program.functions.values() if it.ifunc]
