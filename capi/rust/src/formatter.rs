@@ -367,6 +367,16 @@ formatters! {
 }
 
 /// Intel's style is that of NASM.
+///
+/// ```
+/// use feddurzai::{Decoder, DecoderOptions, Formatter, NasmFormatter};
+///
+/// // 8B 48 08
+/// let mov = Decoder::new(64, b"\x8B\x48\x08", DecoderOptions::NONE).decode();
+/// let mut text = String::new();
+/// NasmFormatter::new().format(&mov, &mut text);
+/// assert_eq!(text, "mov ecx, dword [rax+0x8]");
+/// ```
 pub type NasmFormatter = IntelFormatter;
 
 /// A part of a text.
