@@ -261,13 +261,15 @@ for kind in shared static; do
     cargo test
     ran=$(sed -n 's/^test result: ok\. \([0-9]*\) passed.*/\1/p' "$log" | awk '{ n += $1 } END { print n + 0 }')
     [ "$ran" -gt 0 ] || die "cargo test, $kind: no test ran"
-    cargo build --release --example listing
+    cargo build --release --example listing --example rewrite
     found=$(readelf -W -d "$root/try/rust-$kind/release/examples/listing" | grep -c "NEEDED.*libfeddurzai.so.$interface\]" || true)
     [ "$found" -eq $((1 - wanted)) ] || die "the example listing is not linked with the $kind library"
     for style in intel att masm; do
         # shellcheck disable=SC2016
         inside "listing, $kind" sh -c '"$0" /try/ls.bin 64 "$1" "$2" | cmp - "/try/ls.$2"' "/try/rust-$kind/release/examples/listing" "$at" "$style"
     done
+    # shellcheck disable=SC2016
+    inside "rewrite list, $kind" sh -c '"$0" list /try/ls.bin "$1" | cmp - /try/ls.intel' "/try/rust-$kind/release/examples/rewrite" "$at"
     say "Rust, $kind: $(run_in "" rustc --version) built the crate without a network; $ran tests passed; its listing equals the program's"
     rm -r "$root/try/rust-$kind"
 done
