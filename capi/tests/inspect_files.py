@@ -64,7 +64,8 @@ def refused(wanted, *words):
 
 
 def tool(*words):
-    return subprocess.run(words, stdout=subprocess.PIPE, stderr=subprocess.DEVNULL, check=True).stdout.decode(errors="replace")
+    """The output of a tool of binutils. nm fails on files without symbols."""
+    return subprocess.run(words, stdout=subprocess.PIPE, stderr=subprocess.DEVNULL, check=words[0] != "nm").stdout.decode(errors="replace")
 
 
 def exported(path):
@@ -78,11 +79,12 @@ def exported(path):
 
 
 def tries_list(path):
-    """Each function of nm is listed, each with all its names; .text has the instructions of objdump."""
+    """Each function of nm is listed, with all its names. The sections of an object file have addresses of the inspector's own, so its names alone count."""
     functions = json.loads(output("list", path, "--json"))
-    names = {(it["address"], name.partition("@")[0]) for it in functions for name in it["names"]}
+    is_object = "REL (" in tool("readelf", "-W", "-h", path)
+    names = {(0 if is_object else it["address"], name.partition("@")[0]) for it in functions for name in it["names"]}
     typed = {int(line.split()[1], 16) for line in tool("readelf", "-W", "-s", path).splitlines() if re.search(r" (FUNC|IFUNC) ", line) and " UND " not in line}
-    missing = [it for it in exported(path) if it not in names and it[0] in typed]
+    missing = [it for it in exported(path) if (0 if is_object else it[0], it[1]) not in names and it[0] in typed]
     check(not missing, f"list {path} lacks {missing[:3]}")
     check(len(output("list", path).splitlines()) >= len(functions), f"list {path} has fewer lines than functions")
     return functions

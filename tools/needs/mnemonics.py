@@ -7,7 +7,7 @@ import functools
 import re
 
 PREFIX = re.compile(
-    r"(?:(?:lock|rep|repn?[ez]|bnd|notrack|data16|data32|addr32|addr16|[cdefgs]s|rex(?:\.[WRXB]+)?|xacquire|xrelease|fwait|\{\w+\})\s+)+(?=[a-z(])"
+    r"^(?:(?:lock|rep|repn?[ez]|bnd|notrack|data16|data32|addr32|addr16|[cdefgs]s|rex(?:\.[WRXB]+)?|xacquire|xrelease|\{\w+\})\s+)+(?=[a-z(])"
 )
 HINTS = re.compile(r"endbr(32|64)|rdssp[dq]|pause|prefetch.*|nop.*|ud[012]|xchg")
 
@@ -59,7 +59,7 @@ NAMED = {name: feature for feature, names in BY_NAME.items() for name in names}
 SSE2_ON_MMX = words("paddq psubq pmuludq")
 # new with SSE on MMX's registers
 SSE_ON_MMX = words("pavgb pavgw pextrw pinsrw pmaxsw pmaxub pminsw pminub pmovmskb pmulhuw psadbw pshufw movntq maskmovq")
-SSE_CONVERSIONS = re.compile(r"cvtt?(pi2ps|ps2pi|si2ssl?q?|ss2si)")
+SSE_CONVERSIONS = re.compile(r"cvtt?(pi2ps|ps2pi|si2ss|ss2si)")
 FMA = re.compile(r"vfn?m(add|sub|addsub|subadd)(132|213|231)(ps|pd|ss|sd)")
 FLOAT_OF_AVX = re.compile(r"v(ptest|permilp[sd]|perm2f128|testp[sd])")
 AVX2_ALONE = re.compile(
@@ -67,7 +67,11 @@ AVX2_ALONE = re.compile(
     r"vpblendd|vp?gather[dq][qdp][sd]?"
 )
 # VEX and EVEX instructions that have no row
-NO_VEX_ROW = re.compile(r"vpdp.*|vpmadd52.*|vcvtneps.*|vbcst.*|vsha512.*|vsm[34].*|v?gf2p8.*|k(mov|and|andn|or|xor|xnor|not|add|shift[lr]|unpck|ortest|test).*")
+NO_VEX_ROW = re.compile(
+    # FMA4 and XOP
+    r"vfn?m(add|sub|addsub|subadd)(ps|pd|ss|sd)|vprot[bwdq]|vpsh[al][bwdq]|vpperm|vpcmov|vpmacs\w+|vpmadcs\w+|vph(add|sub)u?[bwd][wdq]|vfrcz\w+|vpcom\w+|"
+    r"vpdp.*|vpmadd52.*|vcvtneps.*|vbcst.*|vsha512.*|vsm[34].*|v?gf2p8.*|k(mov|and|andn|or|xor|xnor|not|add|shift[lr]|unpck|ortest|test).*"
+)
 
 
 def of_vex(name, operands):
@@ -100,6 +104,10 @@ def of_x87(name):
 
 def of_vector(name, operands):
     """The features of a legacy instruction with vector registers."""
+    if SSE_CONVERSIONS.fullmatch(name):
+        return {"SSE"}
+    if name.startswith("cvt"):
+        return {"SSE2"}
     if "xmm" not in operands:
         # MMX's registers
         if name in NAMED:
@@ -111,10 +119,6 @@ def of_vector(name, operands):
         return {NAMED[name]}
     if name == "pextrw" and "[" in operands:
         return {"SSE41"}
-    if SSE_CONVERSIONS.fullmatch(name):
-        return {"SSE"}
-    if name.startswith("cvt"):
-        return {"SSE2"}
     if name.startswith("p") or name in ("movdqa", "movdqu", "movd", "movq", "movdq2q", "movq2dq", "movntdq", "maskmovdqu"):
         return {"SSE2"}
     if name.endswith(("ps", "ss")):
@@ -128,13 +132,16 @@ VMX = "vmcall|vmclear|vmfunc|vmlaunch|vmresume|vmptrld|vmptrst|vmread|vmwrite|vm
 NO_ROW = re.compile(
     VMX + r"|sha(1|256).*|xbegin|xend|xabort|xtest|rdpkru|wrpkru|xsavec.*|xsaves.*|xrstors.*|rdpid|clwb|gf2p8.*|serialize|cldemote|movdir.*|enqcmd.*|"
     r"tpause|umonitor|umwait|ptwrite|wbnoinvd|clzero|monitorx|mwaitx|incssp.*|saveprevssp|rstorssp|wrss.*|wruss.*|setssbsy|clrssbsy|"
-    r"llwpcb|lwpins|extrq|insertq|movntss|movntsd|\(bad\)|\.byte.*|femms|pf\w+"
+    r"llwpcb|lwpins|extrq|insertq|movntss|movntsd|\(bad\)|\.byte.*|femms|pf\w+|pmulhrw|pavgusb|pi2f[dw]|pswapd|"
+    r"ffreep|fndisi.*|fneni.*|fnsetpm.*|frstpm.*"
 )
 
 
 @functools.lru_cache(maxsize=None)
 def features_of(name, operands, evex):
     """The features of an instruction. `operands` is the text of its operands, `evex` says whether its bytes have an EVEX prefix."""
+    if NO_ROW.fullmatch(name):
+        return frozenset({"no row"})
     if evex:
         return frozenset({"AVX512"})
     if HINTS.fullmatch(name):
@@ -143,11 +150,9 @@ def features_of(name, operands, evex):
         return frozenset({"tzcnt"})
     if name.startswith("cmov"):
         return frozenset({"CMOV"})
-    if name.startswith("v") and name not in ("verr", "verw") and not NO_ROW.fullmatch(name):
+    if name.startswith("v") and name not in ("verr", "verw"):
         return frozenset(of_vex(name, operands))
     if NO_VEX_ROW.fullmatch(name) and name.startswith("k"):
-        return frozenset({"no row"})
-    if NO_ROW.fullmatch(name):
         return frozenset({"no row"})
     if "mm" in operands and re.search(r"\bx?mm\d", operands):
         return frozenset(of_vector(name, operands))
