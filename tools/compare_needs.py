@@ -62,8 +62,7 @@ class Ours:
             self.features.add("AVX512")
         self.first = {name: use.address for name, use in found.all.features.items()}
         survey = needs._Survey(program)
-        functions = {it for it in program.functions if survey.in_code(it)}
-        entries = survey.all_entries(set() if program.is_object or not functions else survey.reached_entries()) if functions else None
+        entries = survey.all_entries or None
         self.starts, self.unread, self.inside = set(), set(), set()
         for items in survey.items:
             base, code = items.section.start, items.section.code

@@ -72,6 +72,8 @@ class Program:
             raise BadFile(f"an ELF file for {str(machine).replace('EM_', '')}, not for x86")
         self.bits = MACHINES[machine]
         self.is_object = elf["e_type"] == "ET_REL"
+        # a program whose addresses are those of the file, so that its code may have them as immediates
+        self.is_fixed = elf["e_type"] == "ET_EXEC"
         self.entry: int = elf["e_entry"]
         self._bases: Dict[int, int] = {}
         self.sections = self._sections(elf)
@@ -230,7 +232,7 @@ class Program:
     def bytes_at(self, address: int, size: int) -> bytes:
         """The bytes of the file at an address, as many of them as there are."""
         section = self.section_at(address)
-        return b"" if section is None else section.code[address - section.start :][:size]
+        return b"" if section is None else section.code[address - section.start : address - section.start + size]
 
     def _word_at(self, address: int) -> Optional[int]:
         """The number of address size that the file stores at an address."""

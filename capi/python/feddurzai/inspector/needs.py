@@ -2,8 +2,9 @@
 
 Two sets of code are told apart. `reached` is what control can reach from the entry points: the ELF entry, initializers, exported functions, and
 functions whose address is stored or taken. A resolver of an indirect function (IFUNC) is reached, but the variants among which it chooses are not,
-unless code branches to them. `all` is what control reaches from every known function. Bytes that neither reaches, such as data among code, are not
-taken for instructions. Without any known function, both are the linear listing.
+unless code branches to them. `all` is what control reaches from every known function, and from what that code calls or takes. Bytes that neither
+reaches, such as data among code, are not taken for instructions, nor are addresses of data that code takes. Without any entry, both are the linear
+listing.
 """
 
 from __future__ import annotations
@@ -18,7 +19,7 @@ import feddurzai
 from .. import _native
 from . import tables
 from .elf import Function, Program, Section
-from .scan import BAD, Reached, chunks, code_of, features_of, flow_of, key_of, near_target, reach, references
+from .scan import BAD, Reached, chunks, code_of, features_of, flow_of, immediates, key_of, near_target, reach, references
 
 # System V ABI, AMD64 supplement, table 3.1. LAHF and SAHF have no feature of their own here. XSAVE (OSXSAVE there) is left out: programs use
 # XGETBV to detect features, after a CPUID test, so it says nothing about a level.
@@ -79,10 +80,11 @@ class Needs(NamedTuple):
 
 
 class _Items:
-    """The linear listing of a section: what starts at each offset, and the addresses that its items name.
+    """The linear listing of a section: what starts at each offset, the targets of its branches, and the addresses of code that it takes.
 
-    `kinds` has for each offset the number of a kind, 0 if no instruction starts there. A kind stands for a code and the kinds of its operands, on
-    which features and flow depend; `structs` has an instruction of each.
+    An address is taken by LEA, and in a program with fixed addresses by an immediate that is the start of a function. `kinds` has for each offset the
+    number of a kind, 0 if no instruction starts there. A kind stands for a code and the kinds of its operands, on which features and flow depend;
+    `structs` has an instruction of each.
     """
 
     def __init__(self, program: Program, section: Section) -> None:
@@ -91,6 +93,8 @@ class _Items:
         self.structs = [b""]
         self.references: List[Tuple[int, int, bool]] = []
         numbers: Dict[Tuple[int, ...], int] = {}
+        takes = {number for code in feddurzai.codes_of("lea") for number in [(code & 0xFF, code >> 8)]}
+        low, high, others = section.start, section.end, program.code_sections()
         for chunk in chunks(program.bits, section.start, section.code):
             offsets, keys = chunk.offsets(), chunk.keys()
             for key in set(keys).difference(numbers):
@@ -100,7 +104,10 @@ class _Items:
                     self.structs.append(chunk.struct_at(keys.index(key)))
             for at, key in zip(offsets, keys):
                 self.kinds[at] = numbers[key]
-            self.references += [(offsets[it.item], it.target, it.is_branch) for it in references(chunk)]
+            found = [(offsets[item], target, is_branch) for item, target, is_branch in references(chunk) if is_branch or keys[item][:2] in takes]
+            if program.is_fixed:
+                found += [(offsets[item], value, False) for item, value in immediates(chunk) if value in program.functions]
+            self.references += [it for it in found if low <= it[1] < high or any(one.contains(it[1]) for one in others)]
 
     def starts(self) -> Sequence[int]:
         """The offsets of all instructions."""
@@ -126,7 +133,9 @@ class _Survey:
         self.program = program
         self.items = [_Items(program, it) for it in program.code_sections() if not it.name.startswith(".plt")]
         self.starts = sorted(program.functions)
+        self._judged: Dict[int, bool] = {}
         self.cases = self._cases()
+        self.all_entries = self._known()
 
     def function_at(self, address: int) -> Optional[Function]:
         """The function at or before an address."""
@@ -148,6 +157,48 @@ class _Survey:
     def in_code(self, address: int) -> bool:
         return any(it.section.contains(address) for it in self.items)
 
+    def is_entry(self, address: int) -> bool:
+        """Whether an address of a code section that the file stores, or that its code takes, is an address of code and not of data.
+
+        It is the start of a known function, or control that starts there comes to no byte that begins no instruction of any kind.
+        """
+        if address in self.program.functions:
+            return True
+        if address not in self._judged:
+            code = self.program.bytes_at(address, 1 << 16)
+            reached = reach(self.program.bits, address, code, (0,))
+            self._judged[address] = all(kind_of(code[at : at + 15]) in ("EVEX", "VEX", "0F") for at in unread_places(reached))
+        return self._judged[address]
+
+    def _known(self) -> Set[int]:
+        """The addresses from which all known code is followed: functions, cases of jump tables, entry points, and what that code calls or takes.
+
+        References of bytes that control does not reach from them are dropped: they are data.
+        """
+        entries = {it for it in self.program.functions if self.in_code(it)}
+        entries.update(target for targets in self.cases.values() for target in targets)
+        entries.update(it for it in self.program.entries() if self.in_code(it) and self.is_entry(it))
+        while entries:
+            live = []
+            for items in self.items:
+                flags = bytearray(len(items.section.code))
+                for at in instruction_starts(follow(self.program, items, entries)):
+                    flags[at] = 1
+                live.append((items.section, flags))
+            new = set()
+            for items, (_, flags) in zip(self.items, live):
+                for at, target, is_branch in items.references:
+                    if flags[at] and target not in entries and not any(it.contains(target) and own[target - it.start] for it, own in live):
+                        if is_branch or self.is_entry(target):
+                            new.add(target)
+            new = {it for it in new if self.in_code(it)}
+            if not new:
+                for items, (_, flags) in zip(self.items, live):
+                    items.references = [it for it in items.references if flags[it[0]]]
+                break
+            entries |= new
+        return entries
+
     def _variants(self) -> Set[int]:
         """The addresses among which the resolvers of indirect functions choose: those that they take.
 
@@ -156,7 +207,7 @@ class _Survey:
         taken: Dict[int, Set[int]] = {}
         for items in self.items:
             for offset, target, is_branch in items.references:
-                function = None if is_branch or not self.in_code(target) else self.function_at(items.section.start + offset)
+                function = None if is_branch else self.function_at(items.section.start + offset)
                 if function is not None:
                     taken.setdefault(function.start, set()).add(target)
         chosen = {target for start, targets in taken.items() if self.program.functions[start].ifunc for target in targets}
@@ -168,7 +219,7 @@ class _Survey:
         named: Dict[int, List[int]] = {}
         for items in self.items:
             for offset, target, is_branch in items.references:
-                if not self.in_code(target) or not is_branch and target in variants:
+                if not is_branch and (target in variants or not self.is_entry(target)):
                     continue
                 function = self.function_at(items.section.start + offset)
                 if function is not None:
@@ -176,7 +227,7 @@ class _Survey:
         for start, targets in self.cases.items():
             named.setdefault(start, []).extend(targets)
         found: Set[int] = set()
-        waiting = [it for it in self.program.entries() if self.in_code(it) and it not in variants]
+        waiting = [it for it in self.program.entries() if self.in_code(it) and it not in variants and self.is_entry(it)]
         done: Set[int] = set()
         while waiting:
             address = waiting.pop()
@@ -189,11 +240,6 @@ class _Survey:
                 waiting += named.get(function.start, ())
         return found
 
-    def all_entries(self, reached: Set[int]) -> Set[int]:
-        """The starts of all known functions, the targets of their jump tables, and some entries that are reached."""
-        cases = {target for targets in self.cases.values() for target in targets}
-        return {it for it in self.program.functions if self.in_code(it)} | cases | reached
-
     def part(self, entries: Optional[Set[int]]) -> Part:
         """What the code needs that control reaches from some addresses; from None, the linear listing."""
         features: Dict[str, Use] = {}
@@ -201,8 +247,9 @@ class _Survey:
         count = 0
         for items in self.items:
             section = items.section
-            starts = items.starts()
-            if entries is not None:
+            if entries is None:
+                starts = items.starts()
+            else:
                 reached = follow(self.program, items, entries)
                 for at in unread_places(reached):
                     kind = kind_of(section.code[at : at + 15])
@@ -316,9 +363,9 @@ def needs_of(program: Program) -> Needs:
     """What a file needs."""
     survey = _Survey(program)
     functions = {it for it in program.functions if survey.in_code(it)}
-    if functions:
-        entries = survey.reached_entries() if not program.is_object else survey.all_entries(set())
-        reached, everything = survey.part(entries), survey.part(survey.all_entries(entries))
+    if survey.all_entries:
+        everything = survey.part(survey.all_entries)
+        reached = everything if program.is_object else survey.part(survey.reached_entries())
     else:
         reached = everything = survey.part(None)
     resolvers = [it.name for it in program.functions.values() if it.ifunc]

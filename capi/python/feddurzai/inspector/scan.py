@@ -107,6 +107,13 @@ def references(chunk: Chunk) -> Iterator[Reference]:
                     yield Reference(n, _VALUE.unpack_from(structs, n * SIZE + _OP_SIZE * slot)[0], False)
 
 
+def immediates(chunk: Chunk) -> Iterator[Tuple[int, int]]:
+    """The items of a chunk with an immediate as first or second operand, and its value."""
+    for slot in range(2):
+        for n in _places(chunk.structs[_OP_SIZE * slot + _KIND_AT :: SIZE], OperandKind.IMMEDIATE):
+            yield n, _VALUE.unpack_from(chunk.structs, n * SIZE + _OP_SIZE * slot)[0]
+
+
 _FLOWS: Dict[Tuple[int, int], Flow] = {}
 
 
