@@ -19,6 +19,7 @@ import feddurzai
 from .. import _native
 from . import tables
 from .elf import Function, Program, Section
+from .frames import landing_pads
 from .scan import BAD, Reached, chunks, code_of, features_of, flow_of, immediates, key_of, near_target, reach, references
 
 # System V ABI, AMD64 supplement, table 3.1. LAHF and SAHF have no feature of their own here. XSAVE (OSXSAVE there) is left out: programs use
@@ -135,6 +136,8 @@ class _Survey:
         self.starts = sorted(program.functions)
         self._judged: Dict[int, bool] = {}
         self.cases = self._cases()
+        for start, pads in landing_pads(program).items():
+            self.cases.setdefault(start, []).extend(it for it in pads if self.in_code(it))
         self.all_entries = self._known()
 
     def function_at(self, address: int) -> Optional[Function]:
@@ -171,7 +174,8 @@ class _Survey:
         return self._judged[address]
 
     def _known(self) -> Set[int]:
-        """The addresses from which all known code is followed: functions, cases of jump tables, entry points, and what that code calls or takes.
+        """The addresses from which all known code is followed: functions, cases of jump tables, landing pads, entry points, and what that code
+        calls or takes.
 
         References of bytes that control does not reach from them are dropped: they are data.
         """
