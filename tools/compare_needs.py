@@ -24,6 +24,7 @@ elfx86exts prints the groups of Capstone with one mnemonic each. Differences fro
 A difference of no kind is printed, and the status is then 1.
 """
 import argparse
+import bisect
 import collections
 import os
 import re
@@ -34,16 +35,17 @@ import sys
 sys.dont_write_bytecode = True
 HERE = os.path.dirname(os.path.realpath(__file__))
 sys.path.insert(0, os.path.join(os.path.dirname(HERE), "capi", "python"))
+import feddurzai  # noqa: E402
 from needs import mnemonics  # noqa: E402
 from feddurzai.inspector import needs  # noqa: E402
 from feddurzai.inspector.elf import BadFile, elf_files, open_program  # noqa: E402
 
 LINE = re.compile(r"^ *([0-9a-f]+):\t((?:[0-9a-f]{2} )+) *\t(.*)$")
-# the groups of Capstone that stand for a feature
+# the groups that stand for a feature; those of Capstone for FPU and FMA are not printed by elfx86exts
 GROUPS = {
     "SSE1": "SSE", "SSE2": "SSE2", "SSE3": "SSE3", "SSSE3": "SSSE3", "SSE41": "SSE41", "SSE42": "SSE42", "AES": "AES", "PCLMUL": "PCLMULQDQ",
-    "AVX": "AVX", "AVX2": "AVX2", "AVX512": "AVX512", "BMI": "BMI1", "BMI2": "BMI2", "FMA": "FMA", "F16C": "F16C", "CMOV": "CMOV", "MMX": "MMX",
-    "FPU": "FPU", "ADX": "ADX", "FSGSBASE": "FSGSBASE", "SMAP": "SMAP",
+    "AVX": "AVX", "AVX2": "AVX2", "AVX512": "AVX512", "BMI": "BMI1", "BMI2": "BMI2", "F16C": "F16C", "FC16": "F16C", "CMOV": "CMOV", "MMX": "MMX",
+    "ADX": "ADX", "FSGSBASE": "FSGSBASE", "SMAP": "SMAP",
 }  # fmt: skip
 # groups that say nothing of a processor, or only of instructions without a row
 OTHER_GROUPS = {"MODE64", "MODE32", "NOT64BITMODE", "16BITMODE", "NOVLX", "VM", "VLX", "BWI", "DQI", "CDI", "ERI", "PFI", "SHA", "RTM", "HLE", "SGX", "XOP", "FMA4", "TBM", "SSE4A", "3DNOW"}
@@ -81,8 +83,6 @@ class Ours:
             return "reached"
         if address in self.unread:
             return "no row"
-        import bisect
-
         n = bisect.bisect_right(self.ordered, address) - 1
         if n >= 0 and address < self.ordered[n] + 15:
             found = next(iter(self.items_at(self.ordered[n])), None)
@@ -91,8 +91,6 @@ class Ours:
         return "not reached"
 
     def items_at(self, address):
-        import feddurzai
-
         try:
             yield feddurzai.decode(self.bits, address, self.program.bytes_at(address, 15)).len
         except feddurzai.Refusal:
@@ -128,8 +126,9 @@ class Theirs:
 
     def __init__(self, path, ours):
         self.reached, self.anywhere, self.kinds = {}, {}, collections.defaultdict(collections.Counter)
-        self.where = collections.defaultdict(list)
+        self.where, self.lines = collections.defaultdict(list), 0
         for address, name, features in listed(path, ours.bits):
+            self.lines += 1
             if len(self.where[name]) < 2000:
                 self.where[name].append(address)
             for feature in features:
@@ -150,7 +149,8 @@ def groups_of(path):
 
 class Comparison:
     def __init__(self):
-        self.files, self.equal, self.counts, self.examples, self.strange = 0, collections.Counter(), collections.Counter(), {}, []
+        self.files, self.lines = 0, 0
+        self.equal, self.counts, self.examples, self.strange = collections.Counter(), collections.Counter(), {}, []
 
     def note(self, tool, kind, feature, path, detail):
         self.counts[tool, kind, feature] += 1
@@ -263,11 +263,12 @@ def main():
             continue
         theirs = Theirs(path, ours)
         done.files += 1
+        done.lines += theirs.lines
         done.with_objdump(path, ours, theirs)
         groups = groups_of(path) if has_exts else None
         if groups is not None:
             done.with_elfx86exts(path, ours, theirs, groups)
-    print(f"{done.files} files; without a difference: {', '.join(f'{count} from {tool}' for tool, count in sorted(done.equal.items()))}")
+    print(f"{done.files} files, {done.lines} instructions by objdump; without a difference: {', '.join(f'{count} from {tool}' for tool, count in sorted(done.equal.items()))}")
     for (tool, kind, feature), count in sorted(done.counts.items()):
         print(f"{tool:10}  {kind:14}  {feature:11} {count:3} files, such as {done.examples[tool, kind, feature]}")
     for line in done.strange:

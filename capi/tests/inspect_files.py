@@ -116,8 +116,9 @@ def tries_pictures(path, name, stem):
     with open(out, encoding="utf-8") as file:
         page = file.read()
     lines = [it for it in output("list", path, name).splitlines() if it.startswith("  ")]
-    check("<svg" in page and page.count("<svg") >= 1 and f"<title>{name}" in page or name in page, f"page {path} {name} has no graph or no title")
-    check(all(it.split()[0] in page for it in lines if "called from" not in it), f"page {path} {name} lacks an address of the listing")
+    check("<svg" in page and f"<title>{name}</title>" in page, f"page {path} {name} has no graph or no title")
+    missing = [it for it in lines if f'id="a{int(it.split()[0], 16):x}"' not in page]
+    check(len(lines) > 1 and not missing, f"page {path} {name} lacks {missing[:1]} of the listing")
 
 
 def tries_needs(path, bits):

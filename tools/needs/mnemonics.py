@@ -95,7 +95,7 @@ def of_vex(name, operands):
 
 def of_x87(name):
     found = {"FPU"}
-    if name.startswith("fcmov"):
+    if name.startswith(("fcmov", "fcomi", "fucomi")):
         found.add("CMOV")
     if name.startswith("fisttp"):
         found.add("SSE3")

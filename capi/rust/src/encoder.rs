@@ -57,10 +57,13 @@ impl Encoder {
     ///
     /// [`Error::BadMode`], [`Error::BadInstruction`] or [`Error::NoEncoding`]; then the buffer is unchanged. Some decoded
     /// instructions have no encoding: the shortest form of a branch with needless prefixes may no longer reach.
+    #[inline]
     pub fn encode(&mut self, instruction: &Instruction, ip: u64) -> Result<usize, Error> {
         self.last = instruction.encoded(self.bitness, ip)?;
-        self.buffer.extend_from_slice(&self.last);
-        Ok(self.last.len())
+        let (start, len) = (self.buffer.len(), self.last.len());
+        self.buffer.extend_from_slice(self.last.window());
+        self.buffer.truncate(start + len);
+        Ok(len)
     }
 
     /// Appends a byte to the buffer.

@@ -220,19 +220,29 @@ pub struct Text {
     len: usize,
 }
 
-/// The number of bytes in front of the first 0.
+/// The number of bytes in front of the first 0, 16 at a time.
+#[cfg(target_arch = "x86_64")]
 #[inline]
 fn len_to_zero(bytes: &[u8; MAX_TEXT]) -> usize {
-    const ONES: u64 = 0x0101_0101_0101_0101;
-    for (at, word) in bytes.chunks_exact(8).enumerate() {
-        let word = u64::from_le_bytes(word.try_into().unwrap_or_default());
-        // the lowest bit that is set here is in the first byte that is 0
-        let zeros = word.wrapping_sub(ONES) & !word & (ONES << 7);
+    use core::arch::x86_64::{_mm_cmpeq_epi8, _mm_loadu_si128, _mm_movemask_epi8, _mm_setzero_si128};
+    for (at, part) in bytes.chunks_exact(16).enumerate() {
+        // SAFETY: each x86-64 processor has SSE2, and `part` has 16 readable bytes; the load needs no alignment.
+        let zeros = unsafe {
+            let found = _mm_cmpeq_epi8(_mm_loadu_si128(part.as_ptr().cast()), _mm_setzero_si128());
+            _mm_movemask_epi8(found)
+        };
         if zeros != 0 {
-            return 8 * at + zeros.trailing_zeros() as usize / 8;
+            return 16 * at + zeros.trailing_zeros() as usize;
         }
     }
     MAX_TEXT - 1
+}
+
+/// The number of bytes in front of the first 0.
+#[cfg(not(target_arch = "x86_64"))]
+#[inline]
+fn len_to_zero(bytes: &[u8; MAX_TEXT]) -> usize {
+    bytes.iter().position(|&byte| byte == 0).unwrap_or(MAX_TEXT - 1)
 }
 
 impl Text {
