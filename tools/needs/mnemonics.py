@@ -154,6 +154,8 @@ def features_of(name, operands, evex):
         return frozenset(of_vex(name, operands))
     if NO_VEX_ROW.fullmatch(name) and name.startswith("k"):
         return frozenset({"no row"})
+    if re.fullmatch(r"cvtt?s[sd]2si", name):
+        return frozenset({"SSE2" if "sd2" in name else "SSE"})
     if "mm" in operands and re.search(r"\bx?mm\d", operands):
         return frozenset(of_vector(name, operands))
     if name in NAMED:

@@ -135,6 +135,8 @@ class _Survey:
         self.items = [_Items(program, it) for it in program.code_sections() if not it.name.startswith(".plt")]
         self.starts = sorted(program.functions)
         self._judged: Dict[int, bool] = {}
+        # for each section the offsets at which control reaches instructions from known code
+        self._live: List[Tuple[Section, bytearray]] = []
         self.cases = self._cases()
         for start, pads in landing_pads(program).items():
             self.cases.setdefault(start, []).extend(it for it in pads if self.in_code(it))
@@ -160,17 +162,35 @@ class _Survey:
     def in_code(self, address: int) -> bool:
         return any(it.section.contains(address) for it in self.items)
 
+    def _is_inside(self, address: int) -> bool:
+        """Whether an address is inside an instruction that control reaches from known code."""
+        for section, flags in self._live:
+            if section.contains(address):
+                at = address - section.start
+                if not flags[at]:
+                    for back in range(1, min(at, _native.MAX_LEN - 1) + 1):
+                        if flags[at - back]:
+                            return feddurzai.decode(self.program.bits, section.start, section.code, at - back).len > back
+        return False
+
     def is_entry(self, address: int) -> bool:
         """Whether an address of a code section that the file stores, or that its code takes, is an address of code and not of data.
 
-        It is the start of a known function, or control that starts there comes to no byte that begins no instruction of any kind.
+        It is the start of a known function, or control that starts there comes neither to a byte that begins no instruction of any kind, nor into
+        an instruction of known code.
         """
         if address in self.program.functions:
             return True
         if address not in self._judged:
             code = self.program.bytes_at(address, 1 << 16)
             reached = reach(self.program.bits, address, code, (0,))
-            self._judged[address] = all(kind_of(code[at : at + 15]) in ("EVEX", "VEX", "0F") for at in unread_places(reached))
+            jumps = (at for at, kind in zip(reached.starts, reached.kinds) if kind in (feddurzai.Flow.JUMP, feddurzai.Flow.CONDITIONAL))
+            targets = (feddurzai.decode(self.program.bits, address, code, at).info().target for at in jumps)
+            self._judged[address] = (
+                all(kind_of(code[at : at + 15]) in ("EVEX", "VEX", "0F") for at in unread_places(reached))
+                and not self._is_inside(address)
+                and not any(target is not None and self._is_inside(target) for target in targets)
+            )
         return self._judged[address]
 
     def _known(self) -> Set[int]:
@@ -181,23 +201,24 @@ class _Survey:
         """
         entries = {it for it in self.program.functions if self.in_code(it)}
         entries.update(target for targets in self.cases.values() for target in targets)
-        entries.update(it for it in self.program.entries() if self.in_code(it) and self.is_entry(it))
-        while entries:
-            live = []
+        stored = {it for it in self.program.entries() if self.in_code(it)}
+        while entries or stored:
+            self._live = []
             for items in self.items:
                 flags = bytearray(len(items.section.code))
                 for at in instruction_starts(follow(self.program, items, entries)):
                     flags[at] = 1
-                live.append((items.section, flags))
-            new = set()
-            for items, (_, flags) in zip(self.items, live):
+                self._live.append((items.section, flags))
+            new = {it for it in stored if it not in entries and self.is_entry(it)}
+            for items, (_, flags) in zip(self.items, self._live):
                 for at, target, is_branch in items.references:
-                    if flags[at] and target not in entries and not any(it.contains(target) and own[target - it.start] for it, own in live):
+                    if flags[at] and target not in entries and not any(it.contains(target) and own[target - it.start] for it, own in self._live):
                         if is_branch or self.is_entry(target):
                             new.add(target)
+            stored = set()
             new = {it for it in new if self.in_code(it)}
             if not new:
-                for items, (_, flags) in zip(self.items, live):
+                for items, (_, flags) in zip(self.items, self._live):
                     items.references = [it for it in items.references if flags[it[0]]]
                 break
             entries |= new
