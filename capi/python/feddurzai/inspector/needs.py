@@ -32,6 +32,8 @@ LEVELS: Tuple[FrozenSet[str], ...] = (
 )
 # what a byte begins that has no row
 UNREAD = {0x62: "EVEX", 0xC4: "VEX", 0xC5: "VEX", 0x8F: "XOP", 0x0F: "0F"}
+# how many bytes before an address, and a sixteenth of those after it, are looked at to see whether it is one of code
+NEARBY = 4096
 PREFIXES = b"\x26\x2e\x36\x3e\x64\x65\x66\x67\xf0\xf2\xf3"
 
 
@@ -182,10 +184,14 @@ class _Survey:
         if address in self.program.functions:
             return True
         if address not in self._judged:
-            code = self.program.bytes_at(address, 1 << 16)
-            reached = reach(self.program.bits, address, code, (0,))
+            section = next((it.section for it in self.items if it.section.contains(address)), None)
+            if section is None:
+                return False
+            low = max(section.start, address - NEARBY)
+            code = section.code[low - section.start : address - section.start + 16 * NEARBY]
+            reached = reach(self.program.bits, low, code, (address - low,))
             jumps = (at for at, kind in zip(reached.starts, reached.kinds) if kind in (feddurzai.Flow.JUMP, feddurzai.Flow.CONDITIONAL))
-            targets = (feddurzai.decode(self.program.bits, address, code, at).info().target for at in jumps)
+            targets = (feddurzai.decode(self.program.bits, low, code, at).info().target for at in jumps)
             self._judged[address] = (
                 all(kind_of(code[at : at + 15]) in ("EVEX", "VEX", "0F") for at in unread_places(reached))
                 and not self._is_inside(address)
