@@ -151,9 +151,11 @@ class Comparison:
     def __init__(self):
         self.files, self.lines = 0, 0
         self.equal, self.counts, self.examples, self.strange = collections.Counter(), collections.Counter(), {}, []
+        self.paths = collections.defaultdict(set)
 
     def note(self, tool, kind, feature, path, detail):
         self.counts[tool, kind, feature] += 1
+        self.paths[tool, kind].add(path)
         self.examples.setdefault((tool, kind, feature), f"{path}: {detail}")
         if kind not in VIEWED:
             self.strange.append(f"{tool}: {path}: {feature}: {kind}: {detail}")
@@ -271,6 +273,8 @@ def main():
     print(f"{done.files} files, {done.lines} instructions by objdump; without a difference: {', '.join(f'{count} from {tool}' for tool, count in sorted(done.equal.items()))}")
     for (tool, kind, feature), count in sorted(done.counts.items()):
         print(f"{tool:10}  {kind:14}  {feature:11} {count:3} files, such as {done.examples[tool, kind, feature]}")
+    for (tool, kind), paths in sorted(done.paths.items()):
+        print(f"{tool:10}  {kind:14}  {len(paths):3} files in all")
     for line in done.strange:
         print(f"NO KIND: {line}")
     sys.exit(bool(done.strange))
