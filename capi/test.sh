@@ -267,7 +267,7 @@ checks_rust() {
     say "the crate for Rust: $said"
     if command -v valgrind >/dev/null; then
         CARGO_TARGET_X86_64_UNKNOWN_LINUX_GNU_RUNNER="valgrind -q --smc-check=all --error-exitcode=9" \
-            runs_cargo "$work/cargo.log" test --offline --locked --test encoding --test information --test moving --test examples
+            runs_cargo "$work/cargo.log" test --offline --locked --test encoding --test formatting --test information --test moving --test examples
         say "the crate for Rust: $(tests_in "$work/cargo.log") tests by valgrind, no invalid access"
     else
         say "the crate for Rust: skipped: there is no valgrind here"
