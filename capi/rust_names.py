@@ -80,6 +80,11 @@ def word(row, kind):
         return f"m{STATES[row.name][size == 32]}byte"
     if kind == "M" and row.name in ("sgdt", "sidt", "lgdt", "lidt"):
         return {16: "m1632_16", 32: "m1632", 64: "m1664"}[size]
+    if row.name == "movnti" and kind == "Ey":
+        return f"m{size}"
+    # 32 bits also where the operand size is 16
+    if kind in ("Ey", "Gy", "By", "Ry"):
+        size = max(size, 32)
     if kind == "Ma":
         return f"m{size}{size}"
     if kind == "Xv":

@@ -319,11 +319,12 @@ tries_rust() {
     export FEDDURZAI_LIB_DIR="$out"
     runs_cargo "$work/cargo.log" test --offline --locked
     say "$backend: the crate for Rust: $(tests_in "$work/cargo.log") tests passed ($(cargo --version))"
-    runs_cargo "$work/cargo.log" build --offline --locked --release --example listing
+    runs_cargo "$work/cargo.log" build --offline --locked --release --example listing --example rewrite
     for style in intel att masm; do
         "$work/cargo/release/examples/listing" "$file" 64 401000 $style | cmp - "$work/program.$style" || die "$backend: the listing in Rust differs in style $style"
     done
-    say "$backend: the example listing of the crate lists as the program does, in three styles"
+    "$work/cargo/release/examples/rewrite" list "$file" 401000 | cmp - "$work/program.intel" || die "$backend: the example rewrite lists differently"
+    say "$backend: the examples listing (in three styles) and rewrite of the crate list as the program does"
     unset FEDDURZAI_LIB_DIR
 }
 
@@ -342,7 +343,7 @@ checks_rust() {
     say "the crate for Rust: $said"
     if command -v valgrind >/dev/null; then
         CARGO_TARGET_X86_64_UNKNOWN_LINUX_GNU_RUNNER="valgrind -q --smc-check=all --error-exitcode=9" \
-            runs_cargo "$work/cargo.log" test --offline --locked --test encoding --test information --test moving --test examples
+            runs_cargo "$work/cargo.log" test --offline --locked --test encoding --test formatting --test information --test moving --test examples
         say "the crate for Rust: $(tests_in "$work/cargo.log") tests by valgrind, no invalid access"
     else
         say "the crate for Rust: skipped: there is no valgrind here"

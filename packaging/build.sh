@@ -6,7 +6,7 @@
 #   OUT/feddurzai_VERSION_amd64.deb             the program, its manual page, completion for bash
 #   OUT/libfeddurzaiN_VERSION_amd64.deb         the shared library; N is its interface number, as in the soname
 #   OUT/libfeddurzai-dev_VERSION_amd64.deb      headers, static library, feddurzai.pc, the C file of hooks, examples
-#   OUT/python3-feddurzai_VERSION_all.deb       the Python package, GDB's commands, examples
+#   OUT/python3-feddurzai_VERSION_all.deb       the Python package, feddurzai-inspect, GDB's commands, examples
 #   OUT/feddurzai-VERSION-py3-none-manylinux_2_17_x86_64.manylinux2014_x86_64.whl
 #   OUT/feddurzai-VERSION.crate                 the source of the crate for Rust
 #   OUT/feddurzai-VERSION-x86_64-linux.tar.gz   all of these files in one folder
@@ -216,6 +216,17 @@ mkdir -p "$modules"
 mv "$root/usr/share/feddurzai/python/feddurzai" "$modules/"
 moves python3-feddurzai usr/share/feddurzai/gdb.py
 install -D -m 755 -t "$work/python3-feddurzai/usr/share/doc/python3-feddurzai/examples" "$top"/capi/examples/*.py
+mkdir -p "$work/python3-feddurzai/usr/bin" "$work/python3-feddurzai/usr/share/man/man1"
+gzip -9nc "$here/feddurzai-inspect.1" >"$work/python3-feddurzai/usr/share/man/man1/feddurzai-inspect.1.gz"
+cat >"$work/python3-feddurzai/usr/bin/feddurzai-inspect" <<'END_OF_SCRIPT'
+#!/usr/bin/python3
+import sys
+
+from feddurzai.inspector.command import main
+
+sys.exit(main())
+END_OF_SCRIPT
+chmod 755 "$work/python3-feddurzai/usr/bin/feddurzai-inspect"
 cat >"$work/python3-feddurzai/DEBIAN/postinst" <<'END_OF_SCRIPT'
 #!/bin/sh
 set -e
@@ -348,8 +359,9 @@ Description: x86 decoder, encoder and relocator - Python package
  Feddurzai decodes, encodes, prints and relocates 16, 32 and 64-bit x86 code,
  and makes hooks.
  .
- This package contains the Python 3 package, commands for GDB
- (/usr/share/feddurzai/gdb.py), and examples.
+ This package contains the Python 3 package, the command feddurzai-inspect,
+ which inspects ELF files, commands for GDB (/usr/share/feddurzai/gdb.py), and
+ examples.
 END_OF_FIELDS
 
 # ---- the checks and the output

@@ -7,7 +7,9 @@
 # The steps: list the code of /bin/ls with the program, before a compiler is installed; run the Python package and its examples from
 # the wheel, in a venv without a network, and from the Debian package; compile the C examples with pkg-config and run them, with the
 # shared library and with the static one; walk the stack at each instruction of the library, and in gdb from malloc to main; run the
-# GDB commands; build the crate for Rust with Debian's cargo and without a network, run its tests, and list /bin/ls with its example;
+# GDB commands; run all commands of the inspector on gdb, the C library, libcrypto, a stripped program, an object file, a
+# position-independent and a static program, a 32-bit library, a file of another machine, a truncated and 100 spoiled files, from the
+# Debian package and from the wheel; build the crate for Rust with Debian's cargo and without a network, run its tests, and list /bin/ls with its example;
 # remove the packages and check that no file is left; run the program and the libraries of the .tar.gz.
 #
 # Required: mmdebstrap, unshare, chroot, objcopy, readelf, and a Debian mirror. Variables of the environment:
@@ -16,6 +18,7 @@
 #   MIRROR                a mirror; the default is that of mmdebstrap
 #   MMDEBSTRAP_OPTIONS    more options for mmdebstrap, such as --aptopt=FILE behind a proxy
 #   TMPDIR                the folder for the system, which takes some 1800 MB; the default is /tmp
+#   PICTURES              a folder that receives the pages and graphs that the inspector draws there, to be looked at
 #
 # Each step prints what it checked. The first failure is printed with the output of its command, and the status is then 1.
 set -eu
@@ -230,6 +233,29 @@ says '^block 0x[0-9a-f]+ <main' "feddurzai-flow"
 if grep -q Traceback "$log"; then tail -40 "$log" >&2; die "the GDB commands raised a Python exception"; fi
 say "gdb: feddurzai-list and feddurzai-flow ran in a stopped process"
 
+# ---- the inspector on files of the system: from the Debian package, and from the wheel in a venv
+installs graphviz python3-pyelftools libc6-i386 libc6-arm64-cross
+cp "$capi/tests/inspect_files.py" "$root/try/"
+# inspects WHAT PYTHON COMMAND..: all commands on many kinds of files, and the page of the needs of /usr/bin
+inspects() {
+    what=$1
+    python=$2
+    shift 2
+    alone "inspect_files.py, $what" "$python" /try/inspect_files.py /try/inspected "$@"
+    sed "s/^/inspector, $what: /" "$log"
+    alone "needs of /usr/bin, $what" "$@" needs --jobs 4 --page /try/inspected/needs.html /usr/bin
+    grep -q '<svg' "$root/try/inspected/needs.html" || die "the page of the needs of /usr/bin has no chart"
+    [ -z "${PICTURES:-}" ] || { mkdir -p "$PICTURES" && cp -r "$root/try/inspected/." "$PICTURES/"; }
+    rm -r "$root/try/inspected"
+}
+inspects "Debian package" /usr/bin/python3 feddurzai-inspect
+inside "the manual of feddurzai-inspect" gzip -t /usr/share/man/man1/feddurzai-inspect.1.gz
+alone "venv" python3 -m venv --system-site-packages /try/venv
+alone "pip" sh -c '/try/venv/bin/pip install --no-index --no-deps --ignore-installed --disable-pip-version-check /packages/*.whl'
+alone "import" /try/venv/bin/python -c 'import sys, feddurzai; sys.exit(not feddurzai.__file__.startswith("/try/venv/"))'
+inspects "wheel" /try/venv/bin/python /try/venv/bin/feddurzai-inspect
+rm -r "$root/try/venv"
+
 # ---- Rust: with the shared library by pkg-config, and with the static one
 installs cargo rustc
 inside "the crate" tar -xzf "/packages/feddurzai-$version.crate" -C /try
@@ -241,13 +267,15 @@ for kind in shared static; do
     cargo test
     ran=$(sed -n 's/^test result: ok\. \([0-9]*\) passed.*/\1/p' "$log" | awk '{ n += $1 } END { print n + 0 }')
     [ "$ran" -gt 0 ] || die "cargo test, $kind: no test ran"
-    cargo build --release --example listing
+    cargo build --release --example listing --example rewrite
     found=$(readelf -W -d "$root/try/rust-$kind/release/examples/listing" | grep -c "NEEDED.*libfeddurzai.so.$interface\]" || true)
     [ "$found" -eq $((1 - wanted)) ] || die "the example listing is not linked with the $kind library"
     for style in intel att masm; do
         # shellcheck disable=SC2016
         inside "listing, $kind" sh -c '"$0" /try/ls.bin 64 "$1" "$2" | cmp - "/try/ls.$2"' "/try/rust-$kind/release/examples/listing" "$at" "$style"
     done
+    # shellcheck disable=SC2016
+    inside "rewrite list, $kind" sh -c '"$0" list /try/ls.bin "$1" | cmp - /try/ls.intel' "/try/rust-$kind/release/examples/rewrite" "$at"
     say "Rust, $kind: $(run_in "" rustc --version) built the crate without a network; $ran tests passed; its listing equals the program's"
     rm -r "$root/try/rust-$kind"
 done

@@ -13,6 +13,11 @@ import sys
 import tempfile
 
 PACKAGE, LIBRARY = sys.argv[1:3]
+os.environ["FEDDURZAI_LIBRARY"] = LIBRARY
+sys.path.insert(0, PACKAGE)
+from feddurzai.inspector import needs  # noqa: E402
+from feddurzai.inspector.elf import open_program  # noqa: E402
+
 CC = os.environ.get("CC", "gcc")
 checks = 0
 
@@ -51,6 +56,37 @@ int main(int argc, char **argv)
     chosen(some);
     return choose(argc, first(argc)) + second(some[3]) + loop(argc);
 }
+"""
+
+
+THROWS = """
+#include <stdexcept>
+int risky(int);
+int __attribute__((noinline)) catches(int n)
+{
+    try { return risky(n); }
+    catch (const std::runtime_error &) { return n + 1; }
+    catch (...) { return n + 2; }
+}
+int risky(int n) { if (n > 3) throw std::runtime_error("much"); return n; }
+int main(int argc, char **) { return catches(argc); }
+"""
+# 4096 bytes after a function of a section of code, whose address it takes: a table, and not code
+TABLE = """
+    .text
+    .globl main
+    .type main, @function
+main:
+    lea table(%rip), %rax
+    mov (%rax,%rdi,4), %eax
+    ret
+    .size main, .-main
+    .balign 64
+table:
+    .rept 256
+    .byte 0xc6, 0x63, 0x63, 0xa5, 0x0f, 0x58, 0xc1, 0x7c, 0xc5, 0xfd, 0x6f, 0x00, 0xf8, 0x7c, 0x7c, 0x84
+    .endr
+    .section .note.GNU-stack,"",@progbits
 """
 
 
@@ -133,6 +169,59 @@ def tries_needs(program, folder):
     check(sum(",damaged" in it or "a damaged ELF file" in it or "ELF file for" in it for it in rows) >= 1, "no row says what is wrong with a bad file")
 
 
+def tries_windows(*programs):
+    """Control is followed through a large section in windows: small windows reach what one window reaches."""
+    for path in programs:
+        program = open_program(path)
+        survey = needs._Survey(program)
+        entries = survey.reached_entries()
+        for items in survey.items:
+            whole = needs.follow(program, items, entries)
+            for most in (16, 17, 64, 1000, len(items.section.code) - 1):
+                found = needs.follow(program, items, entries, max(16, most))
+                where = f"{path}, {items.section.name}, windows of {most} bytes"
+                check(list(found.starts) == list(whole.starts) and found.kinds == whole.kinds, f"{where}: control reaches other places")
+
+
+def tries_exceptions(folder):
+    """Control comes to the handlers of exceptions by the tables of the file."""
+    source, program = os.path.join(folder, "throws.cc"), os.path.join(folder, "throws")
+    with open(source, "w", encoding="utf-8") as file:
+        file.write(THROWS)
+    try:
+        subprocess.run(["g++", "-O2", source, "-o", program], check=True)
+    except FileNotFoundError:
+        print("skipped exceptions: g++ is not installed")
+        return
+    listed = tool("objdump", "-d", "--no-show-raw-insn", program)
+    begins = [int(it, 16) for it in re.findall(r"^ +([0-9a-f]+):\tcall .*<__cxa_begin_catch@plt>", listed, re.M)]
+    check(len(begins) == 2, f"objdump finds {len(begins)} handlers")
+    survey = needs._Survey(open_program(program))
+    for entries in (survey.all_entries, survey.reached_entries()):
+        reached = {it.section.start + at for it in survey.items for at in needs.follow(survey.program, it, entries).starts}
+        check(set(begins) <= reached, "a handler of an exception is not reached")
+
+
+def tries_data(folder):
+    """A table in a section of code is not taken for instructions, although code takes its address."""
+    source, program = os.path.join(folder, "table.s"), os.path.join(folder, "table")
+    with open(source, "w", encoding="utf-8") as file:
+        file.write(TABLE)
+    for flags in ([], ["-no-pie"]):
+        subprocess.run([CC, *flags, source, "-o", program], check=True)
+        found = json.loads(output("needs", program, "--json"))
+        for part in ("reached", "all"):
+            check(not {"AVX", "SSE2", "FPU"} & set(found[part]["features"]), f"needs takes data for instructions: {found[part]}")
+            check(not found[part]["unread"], f"needs reads data: {found[part]['unread']}")
+
+
+def tries_fixed(program):
+    """Code of a program with fixed addresses takes the address of main by an immediate."""
+    survey = needs._Survey(open_program(program))
+    (main,) = (start for start, it in survey.program.functions.items() if "main" in it.names)
+    check(main in survey.reached_entries(), "main of a program with fixed addresses is not reached")
+
+
 def tries_hooks(program):
     answers = {it["names"][0]: it for it in json.loads(output("hookable", program, "--json"))}
     check(answers["choose"]["taken"] >= 5 and answers["choose"]["sight"] == "whole", f"choose: {answers['choose']}")
@@ -195,6 +284,11 @@ def main():
             tries_tables(built("wide32", "-m32", "-fno-pie", "-no-pie"), "choose", "32-bit")
         except subprocess.CalledProcessError:
             print("skipped the 32-bit program: this compiler has no -m32")
+        tries_windows(program, fixed)
+        tries_exceptions(folder)
+        tries_data(folder)
+        tries_fixed(fixed)
+        tries_fixed(static)
         tries_hooks(program)
         tries_refusals(program, folder)
         tries_needs(program, folder)

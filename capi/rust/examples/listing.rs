@@ -17,6 +17,15 @@ fn write_byte(out: &mut impl Write, syntax: FormatterSyntax, byte: u8) -> io::Re
     }
 }
 
+/// Writes a number in hexadecimal digits, as many as there is room for.
+fn write_digits(room: &mut [u8], number: u64) {
+    let mut rest = number;
+    for digit in room.iter_mut().rev() {
+        *digit = b"0123456789abcdef"[(rest & 15) as usize];
+        rest >>= 4;
+    }
+}
+
 /// Lists some code.
 pub fn list(
     code: &[u8],
@@ -27,17 +36,19 @@ pub fn list(
 ) -> Result<(), Box<dyn Error>> {
     let mut decoder = Decoder::try_with_ip(bitness, code, ip, DecoderOptions::NONE)?;
     let (mut instruction, mut text) = (Instruction::default(), Text::new());
+    // the address, and the bytes of the longest instruction, with a space after each
     let digits = bitness as usize / 4;
-    let mut column = String::new();
+    let mut columns = vec![b' '; digits + 1 + 30 + 1];
+    let (address, bytes) = columns.split_at_mut(digits);
     while decoder.can_decode() {
         decoder.decode_line(syntax, &mut instruction, &mut text);
-        column.clear();
-        for byte in instruction.bytes() {
-            for nibble in [byte >> 4, byte & 15] {
-                column.push(char::from_digit(u32::from(nibble), 16).unwrap_or('?'));
-            }
+        write_digits(address, instruction.ip());
+        bytes.fill(b' ');
+        for (room, byte) in bytes[1..].chunks_exact_mut(2).zip(instruction.bytes()) {
+            write_digits(room, u64::from(*byte));
         }
-        write!(out, "{:0digits$x} {:<30} ", instruction.ip(), column)?;
+        out.write_all(address)?;
+        out.write_all(bytes)?;
         if instruction.is_invalid() {
             write_byte(out, syntax, instruction.bytes().first().copied().unwrap_or(0))?;
         } else {

@@ -1,6 +1,7 @@
 //! Reads a function, reports what its instructions do, replaces some by shorter ones, and moves the result.
 //!
 //!     rewrite [FILE [ADDRESS [NEW_ADDRESS]]]      raw 64-bit code, addresses in hexadecimal
+//!     rewrite list FILE [ADDRESS]                 the listing of code of any size, as `feddurzai list` writes it
 //!
 //! It uses the decoder, a formatter with an output of its own, the instruction information, constructed instructions, the
 //! encoder and the block encoder. Without a file it rewrites a function of its own.
@@ -13,6 +14,7 @@ use feddurzai::{
 use std::collections::BTreeMap;
 use std::error::Error;
 use std::fmt::Write;
+use std::io::{self, BufWriter, Write as _};
 use std::{env, fs};
 
 const BITNESS: u32 = 64;
@@ -261,6 +263,38 @@ pub fn rewrite(ip: u64, code: &[u8], new_ip: u64) -> Result<String, Box<dyn Erro
     Ok(out)
 }
 
+/// Appends bytes in hexadecimal digits.
+fn push_digits(line: &mut String, bytes: &[u8]) {
+    for byte in bytes {
+        for nibble in [byte >> 4, byte & 15] {
+            line.push(char::from(b"0123456789abcdef"[usize::from(nibble)]));
+        }
+    }
+}
+
+/// Lists code: address, bytes and text of each instruction, and `db` for a byte with which none begins.
+pub fn list(code: &[u8], ip: u64, out: &mut impl io::Write) -> Result<(), Box<dyn Error>> {
+    let mut decoder = Decoder::try_with_ip(BITNESS, code, ip, DecoderOptions::NONE)?;
+    let mut formatter = IntelFormatter::new();
+    let (mut instruction, mut line) = (Instruction::default(), String::new());
+    while decoder.can_decode() {
+        decoder.decode_out(&mut instruction);
+        line.clear();
+        push_digits(&mut line, &instruction.ip().to_be_bytes());
+        line.push(' ');
+        push_digits(&mut line, instruction.bytes());
+        line.push_str(&"                               "[2 * instruction.len()..]);
+        if instruction.is_invalid() {
+            write!(line, "db {:#x}", instruction.bytes()[0])?;
+        } else {
+            formatter.format(&instruction, &mut line);
+        }
+        line.push('\n');
+        out.write_all(line.as_bytes())?;
+    }
+    Ok(())
+}
+
 /// The address that a word names.
 fn address(word: Option<&String>, default: u64) -> Result<u64, std::num::ParseIntError> {
     word.map_or(Ok(default), |word| u64::from_str_radix(word, 16))
@@ -269,6 +303,12 @@ fn address(word: Option<&String>, default: u64) -> Result<u64, std::num::ParseIn
 #[allow(dead_code)]
 fn main() -> Result<(), Box<dyn Error>> {
     let words: Vec<String> = env::args().collect();
+    if let (Some("list"), Some(file)) = (words.get(1).map(String::as_str), words.get(2)) {
+        let mut out = BufWriter::with_capacity(1 << 16, io::stdout().lock());
+        list(&fs::read(file)?, address(words.get(3), 0)?, &mut out)?;
+        out.flush()?;
+        return Ok(());
+    }
     let code = words.get(1).map_or(Ok(FUNCTION.to_vec()), fs::read)?;
     print!("{}", rewrite(address(words.get(2), 0x40_1000)?, &code, address(words.get(3), 0x50_0000)?)?);
     Ok(())

@@ -225,6 +225,7 @@ impl<'a> Decoder<'a> {
     /// decoder.decode_line(FormatterSyntax::Intel, &mut instruction, &mut text);
     /// assert_eq!((instruction.len(), text.as_str()), (2, "je 0x1012"));
     /// ```
+    #[inline]
     pub fn decode_line(&mut self, syntax: FormatterSyntax, instruction: &mut Instruction, text: &mut Text) {
         let rest = self.data.get(self.position..).unwrap_or(&[]);
         let status = match self.library {

@@ -29,7 +29,7 @@ use alloc::vec::Vec;
 pub struct Encoder {
     bitness: u32,
     buffer: Vec<u8>,
-    last: ConstantOffsets,
+    last: EncodedBytes,
 }
 
 #[cfg(feature = "alloc")]
@@ -37,7 +37,7 @@ impl Encoder {
     /// An encoder. With another bitness than 16, 32 and 64, [`Encoder::encode`] returns [`Error::BadMode`].
     #[must_use]
     pub fn new(bitness: u32) -> Encoder {
-        Encoder { bitness, buffer: Vec::new(), last: ConstantOffsets::default() }
+        Encoder { bitness, buffer: Vec::new(), last: EncodedBytes::NONE }
     }
 
     /// An encoder.
@@ -57,11 +57,13 @@ impl Encoder {
     ///
     /// [`Error::BadMode`], [`Error::BadInstruction`] or [`Error::NoEncoding`]; then the buffer is unchanged. Some decoded
     /// instructions have no encoding: the shortest form of a branch with needless prefixes may no longer reach.
+    #[inline]
     pub fn encode(&mut self, instruction: &Instruction, ip: u64) -> Result<usize, Error> {
-        let bytes = instruction.encoded(self.bitness, ip)?;
-        self.last = ConstantOffsets::of(self.bitness, &bytes)?;
-        self.buffer.extend_from_slice(&bytes);
-        Ok(bytes.len())
+        self.last = instruction.encoded(self.bitness, ip)?;
+        let (start, len) = (self.buffer.len(), self.last.len());
+        self.buffer.extend_from_slice(self.last.window());
+        self.buffer.truncate(start + len);
+        Ok(len)
     }
 
     /// Appends a byte to the buffer.
@@ -89,7 +91,7 @@ impl Encoder {
     /// The parts of the instruction that was encoded last.
     #[must_use]
     pub fn get_constant_offsets(&self) -> ConstantOffsets {
-        self.last
+        ConstantOffsets::of(self.bitness, &self.last).unwrap_or_default()
     }
 }
 

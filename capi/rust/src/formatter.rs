@@ -5,7 +5,7 @@ use crate::instruction::Instruction;
 use crate::mnemonic::Mnemonic;
 use crate::operand::OpKind;
 use crate::register::{Register, RegisterClass};
-use crate::sys::{Library, Text};
+use crate::sys::{Library, Text, BAD};
 
 #[cfg(feature = "alloc")]
 use alloc::string::String;
@@ -54,6 +54,27 @@ impl Instruction {
     #[inline]
     pub fn write_text(&self, syntax: FormatterSyntax, text: &mut Text) -> Result<(), Error> {
         taken(Library::get()?.text(self.bitness(), syntax as u32, &self.raw, text)).map(|_| ())
+    }
+
+    /// Appends its text in a style to a string, without a copy of the text.
+    ///
+    /// # Errors
+    ///
+    /// [`Error::BadInstruction`] or [`Error::BadForm`]; then the string is unchanged.
+    ///
+    /// ```
+    /// use feddurzai::{Decoder, DecoderOptions, FormatterSyntax};
+    ///
+    /// let mut line = String::from("401000 ");
+    /// // C3
+    /// Decoder::new(64, b"\xC3", DecoderOptions::NONE).decode().append_text(FormatterSyntax::Intel, &mut line)?;
+    /// assert_eq!(line, "401000 ret");
+    /// # Ok::<(), feddurzai::Error>(())
+    /// ```
+    #[cfg(feature = "alloc")]
+    #[inline]
+    pub fn append_text(&self, syntax: FormatterSyntax, string: &mut String) -> Result<(), Error> {
+        taken(Library::get()?.append_text(self.bitness(), syntax as u32, &self.raw, string)).map(|_| ())
     }
 
     /// The name of the segment register of its prefix, in a style.
@@ -200,6 +221,32 @@ pub trait FormatterOutput {
         let _ = text;
         false
     }
+
+    /// The string to which the whole text is appended. If there is one, no other method is called: that is fastest.
+    ///
+    /// ```
+    /// use feddurzai::{Decoder, DecoderOptions, Formatter, FormatterOutput, FormatterTextKind, IntelFormatter};
+    ///
+    /// struct Line(String);
+    /// impl FormatterOutput for Line {
+    ///     fn write(&mut self, text: &str, _: FormatterTextKind) {
+    ///         self.0.push_str(text);
+    ///     }
+    ///
+    ///     fn string(&mut self) -> Option<&mut String> {
+    ///         Some(&mut self.0)
+    ///     }
+    /// }
+    /// let mut line = Line(String::from("401000 "));
+    /// // C3
+    /// IntelFormatter::new().format(&Decoder::new(64, b"\xC3", DecoderOptions::NONE).decode(), &mut line);
+    /// assert_eq!(line.0, "401000 ret");
+    /// ```
+    #[cfg(feature = "alloc")]
+    #[inline]
+    fn string(&mut self) -> Option<&mut String> {
+        None
+    }
 }
 
 #[cfg(feature = "alloc")]
@@ -213,6 +260,11 @@ impl FormatterOutput for String {
     fn write_whole(&mut self, text: &str) -> bool {
         self.push_str(text);
         true
+    }
+
+    #[inline]
+    fn string(&mut self) -> Option<&mut String> {
+        Some(self)
     }
 }
 
@@ -239,6 +291,13 @@ pub trait Formatter {
     /// Writes the text of an instruction, `(bad)` for something that is no instruction.
     #[inline]
     fn format(&mut self, instruction: &Instruction, output: &mut dyn FormatterOutput) {
+        #[cfg(feature = "alloc")]
+        if let Some(string) = output.string() {
+            if instruction.append_text(self.syntax(), string).is_err() {
+                string.push_str(BAD);
+            }
+            return;
+        }
         let mut text = Text::new();
         if instruction.write_text(self.syntax(), &mut text).is_err() {
             text.set_bad();
@@ -308,6 +367,16 @@ formatters! {
 }
 
 /// Intel's style is that of NASM.
+///
+/// ```
+/// use feddurzai::{Decoder, DecoderOptions, Formatter, NasmFormatter};
+///
+/// // 8B 48 08
+/// let mov = Decoder::new(64, b"\x8B\x48\x08", DecoderOptions::NONE).decode();
+/// let mut text = String::new();
+/// NasmFormatter::new().format(&mov, &mut text);
+/// assert_eq!(text, "mov ecx, dword [rax+0x8]");
+/// ```
 pub type NasmFormatter = IntelFormatter;
 
 /// A part of a text.
@@ -339,7 +408,7 @@ fn write_parts(
         Ok(text) => text,
         Err(_) => {
             if wants(&Part::new(false)) {
-                output.write_mnemonic(instruction, "(bad)");
+                output.write_mnemonic(instruction, BAD);
             }
             return;
         }

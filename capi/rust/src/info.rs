@@ -90,10 +90,12 @@ pub enum OpAccess {
     CondReadCondWrite,
 }
 
-impl OpAccess {
-    /// The access of the bits of `feddurzai.h`: 1 read, 2 written, 4 may be read, 8 may be written.
-    pub(crate) fn of(bits: u8) -> OpAccess {
-        match (bits & 5, bits & 10) {
+/// For each set of access bits its access.
+static ACCESSES: [OpAccess; 16] = {
+    let mut found = [OpAccess::None; 16];
+    let mut bits = 0;
+    while bits < 16 {
+        found[bits] = match (bits & 5, bits & 10) {
             (0, 0) => OpAccess::None,
             (4, 0) => OpAccess::CondRead,
             (_, 0) => OpAccess::Read,
@@ -102,7 +104,17 @@ impl OpAccess {
             (4, 8) => OpAccess::CondReadCondWrite,
             (_, 8) => OpAccess::ReadCondWrite,
             _ => OpAccess::ReadWrite,
-        }
+        };
+        bits += 1;
+    }
+    found
+};
+
+impl OpAccess {
+    /// The access of the bits of `feddurzai.h`: 1 read, 2 written, 4 may be read, 8 may be written.
+    #[inline]
+    pub(crate) fn of(bits: u8) -> OpAccess {
+        ACCESSES[usize::from(bits & 15)]
     }
 
     /// Whether it is read, or may be.
@@ -195,6 +207,7 @@ impl UsedMemory {
         access: OpAccess::None,
     };
 
+    #[inline]
     fn of(memory: &sys::MemoryUse) -> UsedMemory {
         UsedMemory {
             segment: Register::of_prefix(memory.segment),
@@ -478,22 +491,29 @@ impl InstructionInfo {
         features: CpuidFeatures(0),
     };
 
-    fn fill(&mut self, instruction: &Instruction) -> Result<(), Error> {
-        let (about, touched) = (instruction.about()?, instruction.touched()?);
-        for (to, found) in self.registers.iter_mut().zip(&touched.registers) {
+    fn fill(
+        &mut self,
+        instruction: &Instruction,
+        about: &mut sys::About,
+        touched: &mut sys::Touched,
+    ) -> Result<(), Error> {
+        let library = Library::get()?;
+        taken(library.info(&instruction.raw, about))?;
+        taken(library.effects(instruction.bitness(), &instruction.raw, touched))?;
+        self.register_count = usize::from(touched.register_count);
+        self.memory_count = usize::from(touched.memory_count);
+        for (to, found) in self.registers.iter_mut().zip(&touched.registers).take(self.register_count) {
             to.register = Register::of(found.reg_class, found.reg_number);
             to.access = OpAccess::of(found.access);
         }
-        for (to, found) in self.memory.iter_mut().zip(&touched.memory) {
+        for (to, found) in self.memory.iter_mut().zip(&touched.memory).take(self.memory_count) {
             *to = UsedMemory::of(found);
         }
         for (to, found) in self.accesses.iter_mut().zip(about.access) {
             *to = OpAccess::of(found);
         }
-        self.register_count = usize::from(touched.register_count);
-        self.memory_count = usize::from(touched.memory_count);
         self.flow = FlowControl::of(about.flow);
-        self.flags = Flags::of(&touched);
+        self.flags = Flags::of(touched);
         self.features = CpuidFeatures(touched.features);
         Ok(())
     }
@@ -610,6 +630,9 @@ impl InstructionInfo {
 #[derive(Clone, Debug)]
 pub struct InstructionInfoFactory {
     info: InstructionInfo,
+    // what the library reports: kept here, since a new struct would have to be cleared for each instruction
+    about: sys::About,
+    touched: sys::Touched,
 }
 
 impl Default for InstructionInfoFactory {
@@ -622,12 +645,12 @@ impl InstructionInfoFactory {
     /// A factory.
     #[must_use]
     pub const fn new() -> InstructionInfoFactory {
-        InstructionInfoFactory { info: InstructionInfo::NONE }
+        InstructionInfoFactory { info: InstructionInfo::NONE, about: sys::About::ZERO, touched: sys::Touched::ZERO }
     }
 
     /// What an instruction does in its mode. For something that is no instruction, the report is empty.
     pub fn info(&mut self, instruction: &Instruction) -> &InstructionInfo {
-        if self.info.fill(instruction).is_err() {
+        if self.info.fill(instruction, &mut self.about, &mut self.touched).is_err() {
             self.info = InstructionInfo::NONE;
         }
         &self.info
@@ -645,7 +668,7 @@ impl InstructionInfoFactory {
     /// assert!(InstructionInfoFactory::new().try_info(&Instruction::default()).is_err());
     /// ```
     pub fn try_info(&mut self, instruction: &Instruction) -> Result<&InstructionInfo, Error> {
-        self.info.fill(instruction)?;
+        self.info.fill(instruction, &mut self.about, &mut self.touched)?;
         Ok(&self.info)
     }
 }

@@ -65,7 +65,19 @@ pub struct EncodedBytes {
 }
 
 impl EncodedBytes {
+    /// No bytes.
+    #[cfg(feature = "alloc")]
+    pub(crate) const NONE: EncodedBytes = EncodedBytes { bytes: [0; MAX_LEN], len: 0 };
+
+    /// The bytes, and what follows them up to the longest instruction: a copy of a fixed size is two moves.
+    #[cfg(feature = "alloc")]
+    #[inline]
+    pub(crate) fn window(&self) -> &[u8; MAX_LEN] {
+        &self.bytes
+    }
+
     /// Lets a function of the library write the bytes.
+    #[inline]
     pub(crate) fn filled(write: impl FnOnce(&mut [u8]) -> i32) -> Result<EncodedBytes, Error> {
         let mut bytes = [0; MAX_LEN];
         let len = taken(write(&mut bytes))?;
@@ -195,6 +207,7 @@ impl Instruction {
     /// assert_eq!(jmp.encoded(64, 0x1000)?[..], [0xE9, 0xFB, 0x0F, 0x00, 0x00]);
     /// # Ok::<(), feddurzai::Error>(())
     /// ```
+    #[inline]
     pub fn encoded(&self, bitness: u32, ip: u64) -> Result<EncodedBytes, Error> {
         let library = Library::get()?;
         EncodedBytes::filled(|out| library.encode(bitness, ip, &self.raw, out))
@@ -663,7 +676,7 @@ impl fmt::Display for Instruction {
     fn fmt(&self, f: &mut fmt::Formatter<'_>) -> fmt::Result {
         let mut text = sys::Text::new();
         let status = Library::get().map_or(-1, |library| library.text(self.bitness(), 0, &self.raw, &mut text));
-        f.pad(if status >= 0 { text.as_str() } else { "(bad)" })
+        f.pad(if status >= 0 { text.as_str() } else { sys::BAD })
     }
 }
 

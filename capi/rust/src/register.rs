@@ -168,6 +168,7 @@ impl Register {
     }
 
     /// The register of two numbers of `feddurzai.h`; numbers that name no register are no register.
+    #[inline]
     pub(crate) fn of(class: u8, number: u8) -> Register {
         match CLASSES.get(usize::from(class)) {
             Some(&(class, count, _)) if number < count => Register { class, number },
@@ -176,6 +177,7 @@ impl Register {
     }
 
     /// The segment register of a prefix of `feddurzai.h`, [`Register::None`] without one.
+    #[inline]
     pub(crate) fn of_prefix(segment: u8) -> Register {
         match segment.checked_sub(1) {
             Some(number) => Register::of(RegisterClass::Segment as u8, number),

@@ -139,6 +139,8 @@ fn the_encoder_appends() {
     assert_eq!(encoder.encode(&nop, 0), Ok(1));
     assert_eq!(encoder.encode(&far, 0x1F80), Ok(2));
     assert_eq!(encoder.get_constant_offsets().immediate_offset(), 1);
+    assert!(encoder.encode(&far, 0x9000).is_err());
+    assert_eq!(encoder.get_constant_offsets().immediate_offset(), 1);
     assert_eq!(encoder.encode(&far, 0), Err(Error::NoEncoding { cause: Cause::Target, operand: Some(0) }));
     encoder.write_u8(0xCC);
     // EB 7E: 127 bytes forward at most, SDM volume 2, JMP

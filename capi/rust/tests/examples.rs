@@ -142,6 +142,9 @@ fn listings_have_a_line_for_each_item() {
          0000000000401006 c3                             ret\n\
          0000000000401007 48                             db 0x48\n"
     );
+    let mut found = Vec::new();
+    rewrite::list(b"\x48\x89\x5C\x24\x10\x06\xC3\x48", 0x401000, &mut found).unwrap();
+    assert_eq!(String::from_utf8(found).unwrap(), list(FormatterSyntax::Intel));
     assert!(list(FormatterSyntax::Gas).ends_with(".byte 0x48\n") && list(FormatterSyntax::Masm).ends_with("db 48h\n"));
     let mut out = Vec::new();
     listing::list(b"\xF0", 16, 0xFFFF, FormatterSyntax::Masm, &mut out).unwrap();

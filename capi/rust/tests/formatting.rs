@@ -168,6 +168,78 @@ fn parts_have_kinds() {
     assert_eq!(far[4], ("0x12345678".to_string(), LabelAddress));
 }
 
+/// A text that is appended equals the text by itself, whatever is in the string and however much room it has.
+#[test]
+fn texts_are_appended() {
+    let codes: [&[u8]; 4] = [b"\xC3", b"\x48\x89\x5C\x24\x10", b"\xF0\x00\x00", b"\x06"];
+    for syntax in [FormatterSyntax::Intel, FormatterSyntax::Gas, FormatterSyntax::Masm] {
+        for front in ["", "401000 ", "\u{e9}\u{1F600}"] {
+            let (mut string, mut wanted) = (String::from(front), String::from(front));
+            string.shrink_to_fit();
+            for code in codes.iter().cycle().take(40) {
+                let instruction = decode(0x1000, code);
+                match instruction.text(syntax) {
+                    Ok(text) => {
+                        wanted.push_str(&text);
+                        assert_eq!(instruction.append_text(syntax, &mut string), Ok(()));
+                    }
+                    Err(error) => assert_eq!(instruction.append_text(syntax, &mut string), Err(error)),
+                }
+                assert_eq!(string, wanted);
+            }
+        }
+    }
+}
+
+/// A text that the library ends with a 0 has its own length, shorter or longer than the one before it.
+#[test]
+fn texts_have_any_length() {
+    // codes whose texts have different lengths
+    let (mut decoder, mut instruction, mut text) =
+        (Decoder::new(64, b"", DecoderOptions::NONE), Instruction::default(), Text::new());
+    let mut seen = [false; 64];
+    let codes: [&[u8]; 9] = [
+        b"\x90",
+        b"\xC3",
+        b"\xCC",
+        b"\x50",
+        b"\x41\x50",
+        b"\x01\xC8",
+        b"\x48\x01\xC8",
+        b"\x48\x8B\x44\x24\x10",
+        b"\xF0\x64\x48\x0F\xC7\x8C\x88\x78\x56\x34\x12",
+    ];
+    for code in codes {
+        decoder.clone_from(&Decoder::new(64, code, DecoderOptions::NONE));
+        decoder.decode_line(FormatterSyntax::Masm, &mut instruction, &mut text);
+        assert_eq!(text, instruction.text(FormatterSyntax::Masm).unwrap().as_str());
+        assert_eq!(line_text(64, FormatterSyntax::Masm, 0, code), Ok((code.len(), text)));
+        seen[text.len()] = true;
+    }
+    assert!(seen.iter().filter(|&&one| one).count() >= 5);
+}
+
+/// An output with a string receives the whole text there, and nothing else.
+#[test]
+fn an_output_may_have_a_string() {
+    struct Line(String, usize);
+    impl FormatterOutput for Line {
+        fn write(&mut self, _: &str, _: FormatterTextKind) {
+            self.1 += 1;
+        }
+
+        fn string(&mut self) -> Option<&mut String> {
+            Some(&mut self.0)
+        }
+    }
+    for formatter in &mut formatters() {
+        let mut line = Line(String::from(">"), 0);
+        formatter.format(&decode(0x1000, b"\xC3"), &mut line);
+        formatter.format(&Instruction::default(), &mut line);
+        assert_eq!((line.0.as_str(), line.1), (">ret(bad)", 0));
+    }
+}
+
 #[test]
 fn what_is_no_instruction_is_bad() {
     for formatter in &mut formatters() {

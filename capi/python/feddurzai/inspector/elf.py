@@ -72,6 +72,8 @@ class Program:
             raise BadFile(f"an ELF file for {str(machine).replace('EM_', '')}, not for x86")
         self.bits = MACHINES[machine]
         self.is_object = elf["e_type"] == "ET_REL"
+        # a program whose addresses are those of the file, so that its code may have them as immediates
+        self.is_fixed = elf["e_type"] == "ET_EXEC"
         self.entry: int = elf["e_entry"]
         self._bases: Dict[int, int] = {}
         self.sections = self._sections(elf)
@@ -89,6 +91,8 @@ class Program:
             self._take_plt()
             self._take_frames()
         self.starts = sorted(self._symbols)
+        # for addresses that were looked up: the first name, the name that has a size, and where that symbol ends
+        self._spans: Dict[int, Tuple[str, str, int]] = {}
         self.functions = self._functions()
         self._by_name = {name: start for start in sorted(self.functions, reverse=True) for name in self.functions[start].names}
         self._function_starts = sorted(self.functions)
@@ -230,7 +234,7 @@ class Program:
     def bytes_at(self, address: int, size: int) -> bytes:
         """The bytes of the file at an address, as many of them as there are."""
         section = self.section_at(address)
-        return b"" if section is None else section.code[address - section.start :][:size]
+        return b"" if section is None else section.code[address - section.start : address - section.start + size]
 
     def _word_at(self, address: int) -> Optional[int]:
         """The number of address size that the file stores at an address."""
@@ -255,10 +259,13 @@ class Program:
         if n == 0:
             return None
         start = self.starts[n - 1]
+        if start not in self._spans:
+            name, size = next(((name, size) for name, size, _ in self._symbols[start] if size), ("", 0))
+            self._spans[start] = self.names_at(start)[0], name, start + size
+        first, name, end = self._spans[start]
         if address == start:
-            return self.names_at(address)[0]
-        name, size = next(((name, size) for name, size, _ in self._symbols[start] if size), ("", 0))
-        return f"{name}+{address - start:#x}" if address < start + size else None
+            return first
+        return f"{name}+{address - start:#x}" if address < end else None
 
     def function_around(self, address: int) -> Optional[Function]:
         """The function that contains an address, None if there is none."""

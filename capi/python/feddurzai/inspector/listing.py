@@ -2,10 +2,12 @@
 
 from __future__ import annotations
 
+import bisect
 import json
 from typing import Any, Dict, Iterator, List, Optional, TextIO, Tuple
 
 from .. import _native
+from .._items import SIZE
 from .elf import Function, Program
 from .scan import BAD, Chunk, Xrefs, chunks, references
 from .texts import Painter, relocation_in
@@ -76,22 +78,67 @@ def _heading(program: Program, painter: Painter, address: int, xrefs: Optional[X
     return written + (painter.paint("note", f"  called from {', '.join(callers)}") + "\n" if callers else "")
 
 
+def _tails(program: Program, function: Function, style: int) -> Iterator[Tuple[List[int], List[str]]]:
+    """For the items of a function or section, some at a time: their offsets and that after the last one, and what a line without colours has after
+    the address. The loops run in C as far as possible."""
+    bits, code = program.bits, program.code_of(function)
+    text, room, size = _native.text, _native.TextRoom(), _native.MAX_TEXT
+    # the line of an item that names no address depends on its bytes alone, also that of a byte at which no instruction starts
+    known: Dict[bytes, str] = {}
+    for chunk in chunks(bits, function.start, code):
+        offsets, structs, highs = chunk.offsets(), chunk.structs, chunk.highs
+        symbols = _symbols(program, chunk, offsets, function.start)
+        items = [code[at:end] for at, end in zip(offsets, offsets[1:])]
+        for n, symbol in symbols.items():
+            # no cached line has this key
+            if highs[n] != BAD:
+                text(bits, style, structs[n * SIZE : (n + 1) * SIZE], room, size)
+                beside = f" <{symbol}>\n" if symbol is not None else "\n"
+                symbols[n] = f"{items[n].hex():30} {str(room.value, 'ascii')}{beside}"
+        tails = list(map(known.get, items))
+        for n, tail in enumerate(tails):
+            if tail is None and n not in symbols:
+                words = _BAD_TEXT
+                if highs[n] != BAD:
+                    text(bits, style, structs[n * SIZE : (n + 1) * SIZE], room, size)
+                    words = str(room.value, "ascii")
+                tails[n] = tail = f"{items[n].hex():30} {words}\n"
+                if len(known) < MOST_KNOWN:
+                    known[items[n]] = tail
+        for n, tail in symbols.items():
+            if highs[n] != BAD:
+                tails[n] = tail
+        yield offsets, [tail or "" for tail in tails]
+
+
+def _write_plain(program: Program, function: Function, style: int, out: TextIO, xrefs: Optional[Xrefs]) -> None:
+    """`write` without colours."""
+    width, painter, heads, start = program.bits // 4, Painter(False), program.starts, function.start
+    for offsets, tails in _tails(program, function, style):
+        lines_ = [f"  {start + at:0{width}x}  {tail}" for at, tail in zip(offsets, tails)]
+        first = bisect.bisect_left(heads, start + offsets[0])
+        for address in heads[first : bisect.bisect_left(heads, start + offsets[-1])]:
+            n = bisect.bisect_left(offsets, address - start)
+            if offsets[n] == address - start:
+                lines_[n] = _heading(program, painter, address, xrefs) + lines_[n]
+        out.write("".join(lines_))
+
+
 def write(program: Program, function: Function, style: int, colours: bool, out: TextIO, xrefs: Optional[Xrefs] = None) -> None:
     """Lists a function or section, with a line in front of each symbol."""
-    width, painter, headed = program.bits // 4, Painter(colours), set(program.starts)
-    plain = f"  %0{width}x  %-30s %s%s\n"
+    if not colours:
+        _write_plain(program, function, style, out, xrefs)
+        return
+    width, painter, headed = program.bits // 4, Painter(True), set(program.starts)
     for some in lines(program, function, style):
         written = []
         for address, code, text, symbol in some:
             if address in headed:
                 written.append(_heading(program, painter, address, xrefs))
             beside = "" if symbol is None else f" <{symbol}>"
-            if colours:
-                words = painter.paint("bad", text) if text is _BAD_TEXT else painter.text(text)
-                where, bytes_ = painter.paint("address", f"{address:0{width}x}"), painter.paint("bytes", f"{code.hex():30}")
-                written.append(f"  {where}  {bytes_} {words}{painter.paint('symbol', beside)}\n")
-            else:
-                written.append(plain % (address, code.hex(), text, beside))
+            words = painter.paint("bad", text) if text is _BAD_TEXT else painter.text(text)
+            where, bytes_ = painter.paint("address", f"{address:0{width}x}"), painter.paint("bytes", f"{code.hex():30}")
+            written.append(f"  {where}  {bytes_} {words}{painter.paint('symbol', beside)}\n")
         out.write("".join(written))
 
 

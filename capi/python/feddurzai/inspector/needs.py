@@ -2,13 +2,16 @@
 
 Two sets of code are told apart. `reached` is what control can reach from the entry points: the ELF entry, initializers, exported functions, and
 functions whose address is stored or taken. A resolver of an indirect function (IFUNC) is reached, but the variants among which it chooses are not,
-unless code branches to them. `all` is what control reaches from every known function. Bytes that neither reaches, such as data among code, are not
-taken for instructions. Without any known function, both are the linear listing.
+unless code branches to them. `all` is what control reaches from every known function, and from what that code calls or takes. Bytes that neither
+reaches, such as data among code, are not taken for instructions, nor are addresses of data that code takes. Without any entry, both are the linear
+listing.
 """
 
 from __future__ import annotations
 
 import bisect
+import sys
+from array import array
 from typing import Any, Dict, FrozenSet, Iterable, List, NamedTuple, Optional, Sequence, Set, Tuple
 
 import feddurzai
@@ -16,7 +19,8 @@ import feddurzai
 from .. import _native
 from . import tables
 from .elf import Function, Program, Section
-from .scan import BAD, chunks, features_of, flow_of, key_of, reach, references
+from .frames import landing_pads
+from .scan import BAD, Reached, chunks, code_of, features_of, flow_of, immediates, key_of, near_target, reach, references
 
 # System V ABI, AMD64 supplement, table 3.1. LAHF and SAHF have no feature of their own here. XSAVE (OSXSAVE there) is left out: programs use
 # XGETBV to detect features, after a CPUID test, so it says nothing about a level.
@@ -28,6 +32,8 @@ LEVELS: Tuple[FrozenSet[str], ...] = (
 )
 # what a byte begins that has no row
 UNREAD = {0x62: "EVEX", 0xC4: "VEX", 0xC5: "VEX", 0x8F: "XOP", 0x0F: "0F"}
+# how many bytes before an address, and a sixteenth of those after it, are looked at to see whether it is one of code
+NEARBY = 4096
 PREFIXES = b"\x26\x2e\x36\x3e\x64\x65\x66\x67\xf0\xf2\xf3"
 
 
@@ -77,23 +83,50 @@ class Needs(NamedTuple):
 
 
 class _Items:
-    """The linear listing of a section: the offset of each item, its key, and the addresses that it names."""
+    """The linear listing of a section: what starts at each offset, the targets of its branches, and the addresses of code that it takes.
+
+    An address is taken by LEA, and in a program with fixed addresses by an immediate that is the start of a function. `kinds` has for each offset the
+    number of a kind, 0 if no instruction starts there. A kind stands for a code and the kinds of its operands, on which features and flow depend;
+    `structs` has an instruction of each.
+    """
 
     def __init__(self, program: Program, section: Section) -> None:
         self.section = section
-        self.keys: Dict[int, Tuple[int, ...]] = {}
+        self.kinds = array("H", bytes(2 * len(section.code)))
+        self.structs = [b""]
         self.references: List[Tuple[int, int, bool]] = []
-        self.structs: Dict[Tuple[int, ...], bytes] = {}
+        numbers: Dict[Tuple[int, ...], int] = {}
+        takes = {number for code in feddurzai.codes_of("lea") for number in [(code & 0xFF, code >> 8)]}
+        low, high, others = section.start, section.end, program.code_sections()
         for chunk in chunks(program.bits, section.start, section.code):
-            offsets, keys, highs = chunk.offsets(), chunk.keys(), chunk.highs
-            for key in set(keys):
-                if key not in self.structs and key[1] != BAD:
-                    self.structs[key] = chunk.struct_at(keys.index(key))
-            if BAD in highs:
-                self.keys.update((at, key) for at, key in zip(offsets, keys) if key[1] != BAD)
-            else:
-                self.keys.update(zip(offsets, keys))
-            self.references += [(offsets[it.item], it.target, it.is_branch) for it in references(chunk)]
+            offsets, keys = chunk.offsets(), chunk.keys()
+            for key in set(keys).difference(numbers):
+                numbers[key] = 0
+                if key[1] != BAD:
+                    numbers[key] = len(self.structs)
+                    self.structs.append(chunk.struct_at(keys.index(key)))
+            for at, key in zip(offsets, keys):
+                self.kinds[at] = numbers[key]
+            found = [(offsets[item], target, is_branch) for item, target, is_branch in references(chunk) if is_branch or keys[item][:2] in takes]
+            if program.is_fixed:
+                found += [(offsets[item], value, False) for item, value in immediates(chunk) if value in program.functions]
+            self.references += [it for it in found if low <= it[1] < high or any(one.contains(it[1]) for one in others)]
+
+    def starts(self) -> Sequence[int]:
+        """The offsets of all instructions."""
+        return [at for at, kind in enumerate(self.kinds) if kind]
+
+    def places(self, wanted: Set[int]) -> List[int]:
+        """The offsets of the instructions of some kinds."""
+        data, found = self.kinds.tobytes() if wanted else b"", []
+        for kind in wanted:
+            pattern = kind.to_bytes(2, sys.byteorder)
+            at = data.find(pattern)
+            while at >= 0:
+                if at % 2 == 0:
+                    found.append(at // 2)
+                at = data.find(pattern, at + 1)
+        return sorted(found)
 
 
 class _Survey:
@@ -103,7 +136,13 @@ class _Survey:
         self.program = program
         self.items = [_Items(program, it) for it in program.code_sections() if not it.name.startswith(".plt")]
         self.starts = sorted(program.functions)
+        self._judged: Dict[int, bool] = {}
+        # for each section the offsets at which control reaches instructions from known code
+        self._live: List[Tuple[Section, bytearray]] = []
         self.cases = self._cases()
+        for start, pads in landing_pads(program).items():
+            self.cases.setdefault(start, []).extend(it for it in pads if self.in_code(it))
+        self.all_entries = self._known()
 
     def function_at(self, address: int) -> Optional[Function]:
         """The function at or before an address."""
@@ -114,8 +153,8 @@ class _Survey:
         """For each function with jump tables their targets."""
         found: Dict[int, List[int]] = {}
         for items in self.items:
-            jumps = {key for key, fields in items.structs.items() if flow_of(fields) == feddurzai.Flow.INDIRECT_JUMP}
-            for at in [at for at, key in items.keys.items() if key in jumps] if jumps else []:
+            jumps = {kind for kind, fields in enumerate(items.structs) if kind and flow_of(fields) == feddurzai.Flow.INDIRECT_JUMP}
+            for at in items.places(jumps):
                 function = self.program.function_around(items.section.start + at)
                 if function is not None and function.start not in found and function.size <= _native.MAX_FLOW:
                     followed = tables.follow(self.program, function)
@@ -125,6 +164,72 @@ class _Survey:
     def in_code(self, address: int) -> bool:
         return any(it.section.contains(address) for it in self.items)
 
+    def _is_inside(self, address: int) -> bool:
+        """Whether an address is inside an instruction that control reaches from known code."""
+        for section, flags in self._live:
+            if section.contains(address):
+                at = address - section.start
+                if not flags[at]:
+                    for back in range(1, min(at, _native.MAX_LEN - 1) + 1):
+                        if flags[at - back]:
+                            return feddurzai.decode(self.program.bits, section.start, section.code, at - back).len > back
+        return False
+
+    def is_entry(self, address: int) -> bool:
+        """Whether an address of a code section that the file stores, or that its code takes, is an address of code and not of data.
+
+        It is the start of a known function, or control that starts there comes neither to a byte that begins no instruction of any kind, nor into
+        an instruction of known code.
+        """
+        if address in self.program.functions:
+            return True
+        if address not in self._judged:
+            section = next((it.section for it in self.items if it.section.contains(address)), None)
+            if section is None:
+                return False
+            low = max(section.start, address - NEARBY)
+            code = section.code[low - section.start : address - section.start + 16 * NEARBY]
+            reached = reach(self.program.bits, low, code, (address - low,))
+            jumps = (at for at, kind in zip(reached.starts, reached.kinds) if kind in (feddurzai.Flow.JUMP, feddurzai.Flow.CONDITIONAL))
+            targets = (feddurzai.decode(self.program.bits, low, code, at).info().target for at in jumps)
+            self._judged[address] = (
+                all(kind_of(code[at : at + 15]) in ("EVEX", "VEX", "0F") for at in unread_places(reached))
+                and not self._is_inside(address)
+                and not any(target is not None and self._is_inside(target) for target in targets)
+            )
+        return self._judged[address]
+
+    def _known(self) -> Set[int]:
+        """The addresses from which all known code is followed: functions, cases of jump tables, landing pads, entry points, and what that code
+        calls or takes.
+
+        References of bytes that control does not reach from them are dropped: they are data.
+        """
+        entries = {it for it in self.program.functions if self.in_code(it)}
+        entries.update(target for targets in self.cases.values() for target in targets)
+        stored = {it for it in self.program.entries() if self.in_code(it)}
+        while entries or stored:
+            self._live = []
+            for items in self.items:
+                flags = bytearray(len(items.section.code))
+                for at in instruction_starts(follow(self.program, items, entries)):
+                    flags[at] = 1
+                self._live.append((items.section, flags))
+            new = {it for it in stored if it not in entries and self.is_entry(it)}
+            for items, (_, flags) in zip(self.items, self._live):
+                for at, target, is_branch in items.references:
+                    if flags[at] and target not in entries and not any(it.contains(target) and own[target - it.start] for it, own in self._live):
+                        if is_branch or self.is_entry(target):
+                            new.add(target)
+            stored = set()
+            new = {it for it in new if self.in_code(it)}
+            if not new:
+                for items, (_, flags) in zip(self.items, self._live):
+                    items.references = [it for it in items.references if flags[it[0]]]
+                break
+            entries |= new
+        return entries
+
     def _variants(self) -> Set[int]:
         """The addresses among which the resolvers of indirect functions choose: those that they take.
 
@@ -133,7 +238,7 @@ class _Survey:
         taken: Dict[int, Set[int]] = {}
         for items in self.items:
             for offset, target, is_branch in items.references:
-                function = None if is_branch or not self.in_code(target) else self.function_at(items.section.start + offset)
+                function = None if is_branch else self.function_at(items.section.start + offset)
                 if function is not None:
                     taken.setdefault(function.start, set()).add(target)
         chosen = {target for start, targets in taken.items() if self.program.functions[start].ifunc for target in targets}
@@ -145,7 +250,7 @@ class _Survey:
         named: Dict[int, List[int]] = {}
         for items in self.items:
             for offset, target, is_branch in items.references:
-                if not self.in_code(target) or not is_branch and target in variants:
+                if not is_branch and (target in variants or not self.is_entry(target)):
                     continue
                 function = self.function_at(items.section.start + offset)
                 if function is not None:
@@ -153,7 +258,7 @@ class _Survey:
         for start, targets in self.cases.items():
             named.setdefault(start, []).extend(targets)
         found: Set[int] = set()
-        waiting = [it for it in self.program.entries() if self.in_code(it) and it not in variants]
+        waiting = [it for it in self.program.entries() if self.in_code(it) and it not in variants and self.is_entry(it)]
         done: Set[int] = set()
         while waiting:
             address = waiting.pop()
@@ -172,14 +277,19 @@ class _Survey:
         unread: Dict[str, Unread] = {}
         count = 0
         for items in self.items:
-            for at, kind in _reached(self.program, items, entries):
-                if kind:
-                    old = unread.get(kind, Unread(kind, 0, items.section.start + at))
+            section = items.section
+            if entries is None:
+                starts = items.starts()
+            else:
+                reached = follow(self.program, items, entries)
+                for at in unread_places(reached):
+                    kind = kind_of(section.code[at : at + 15])
+                    old = unread.get(kind, Unread(kind, 0, section.start + at))
                     unread[kind] = old._replace(places=old.places + 1)
-            starts = items.keys if entries is None else _starts(self.program, items, entries)
+                starts = instruction_starts(reached)
             count += len(starts)
             for feature, at in _features(self.program, items, starts).items():
-                address = items.section.start + at
+                address = section.start + at
                 if feature not in features or address < features[feature].address:
                     features[feature] = Use(address, self._name(address))
         return Part(features, sorted(unread.values()), count)
@@ -193,42 +303,66 @@ class _Survey:
         codes = {code for name in names for code in feddurzai.codes_of(name)}
         found: Dict[str, None] = {}
         for items in self.items:
-            wanted = {key for key in items.structs if key[0] + 256 * key[1] in codes}
-            if wanted:
-                for at, key in items.keys.items():
-                    if key in wanted:
-                        found[self._name(items.section.start + at) or f"{items.section.start + at:#x}"] = None
+            wanted = {kind for kind, fields in enumerate(items.structs) if kind and code_of(fields) in codes}
+            for at in items.places(wanted):
+                found[self._name(items.section.start + at) or f"{items.section.start + at:#x}"] = None
         return list(found)
 
 
-def _starts(program: Program, items: _Items, entries: Set[int]) -> Sequence[int]:
-    """The offsets of the instructions of a section that control reaches from some addresses."""
-    reached = _reach(program, items, entries)
-    return [at for at, kind in zip(reached[0], reached[1]) if kind < 0xFE]
+def _leaving(program: Program, items: _Items, low: int, step: int, reached: Reached) -> Set[int]:
+    """The offsets outside a window, which begins at `low`, to which control goes from what it reaches in it."""
+    section = items.section
+    found = {low + at for at in reached.starts if at >= step}
+    sources = {low + at for at, kind in zip(reached.starts, reached.kinds) if kind in (feddurzai.Flow.JUMP, feddurzai.Flow.CONDITIONAL) and at < step}
+    targets = {target - section.start for at, target, is_branch in items.references if is_branch and at in sources}
+    # branches that the linear listing reads otherwise
+    for at in sources:
+        if not items.kinds[at]:
+            targets.add((near_target(feddurzai.decode(program.bits, section.start, section.code, at)._struct) or 0) - section.start)
+    found.update(it for it in targets if 0 <= it < len(section.code) and not low <= it < low + step)
+    return found
 
 
-_CACHE: Dict[Tuple[int, int], Tuple[Sequence[int], bytes]] = {}
+def follow(program: Program, items: _Items, entries: Set[int], most: int = _native.MAX_FLOW) -> Reached:
+    """The offsets of a section that control reaches from some addresses.
+
+    One call of the library follows `most` bytes. Larger sections are followed in windows, until no window has a new entry.
+    """
+    bits, start, code = program.bits, items.section.start, items.section.code
+    offsets = {it - start for it in entries if items.section.contains(it)}
+    if len(code) <= most:
+        return reach(bits, start, code, offsets)
+    # an instruction that starts in a step ends in its window
+    step = most - _native.MAX_LEN
+    waiting: Dict[int, Set[int]] = {}
+    for offset in offsets:
+        waiting.setdefault(offset // step, set()).add(offset)
+    known: Dict[int, Set[int]] = {}
+    found: Dict[int, Reached] = {}
+    while waiting:
+        n, new = waiting.popitem()
+        known.setdefault(n, set()).update(new)
+        low = n * step
+        found[n] = reach(bits, start + low, code[low : low + most], [it - low for it in known[n]])
+        for target in _leaving(program, items, low, step, found[n]):
+            if target not in known.get(target // step, ()):
+                waiting.setdefault(target // step, set()).add(target)
+    starts, kinds = array("I"), bytearray()
+    for n, reached in sorted(found.items()):
+        own = bisect.bisect_left(reached.starts, step)
+        starts.extend(n * step + at for at in reached.starts[:own])
+        kinds += reached.kinds[:own]
+    return Reached(starts, bytes(kinds))
 
 
-def _reach(program: Program, items: _Items, entries: Set[int]) -> Tuple[Sequence[int], bytes]:
-    key = id(items), id(entries)
-    if key not in _CACHE:
-        _CACHE.clear()
-        section = items.section
-        code = section.code[: _native.MAX_FLOW]
-        inside = [it - section.start for it in entries if section.contains(it)]
-        found = reach(program.bits, section.start, code, inside)
-        _CACHE[key] = found.starts, found.kinds
-    return _CACHE[key]
+def instruction_starts(reached: Reached) -> List[int]:
+    """The reached offsets at which an instruction starts."""
+    return [at for at, kind in zip(reached.starts, reached.kinds) if kind < 0xFE]
 
 
-def _reached(program: Program, items: _Items, entries: Optional[Set[int]]) -> List[Tuple[int, str]]:
-    """The reached offsets at which no instruction starts, with what their bytes begin."""
-    code = items.section.code
-    if entries is None:
-        return []
-    starts, kinds = _reach(program, items, entries)
-    return [(at, kind_of(code[at : at + 15])) for at, kind in zip(starts, kinds) if kind == 0xFF] if 0xFF in kinds else []
+def unread_places(reached: Reached) -> List[int]:
+    """The reached offsets at which no instruction of the table starts."""
+    return [at for at, kind in zip(reached.starts, reached.kinds) if kind == 0xFF] if 0xFF in reached.kinds else []
 
 
 def kind_of(code: bytes) -> str:
@@ -237,20 +371,16 @@ def kind_of(code: bytes) -> str:
     return UNREAD.get(rest[0], "other") if rest else "other"
 
 
-def _features(program: Program, items: _Items, starts: Iterable[int]) -> Dict[str, int]:
-    """For each feature of the instructions at some offsets the first offset."""
-    first: Dict[Tuple[int, ...], int] = {}
-    apart = []
-    keys = items.keys
-    for at in starts:
-        key = keys.get(at)
-        if key is None:
-            apart.append(at)
-        elif key not in first:
-            first[key] = at
+def _features(program: Program, items: _Items, starts: Sequence[int]) -> Dict[str, int]:
+    """For each feature of the instructions at some offsets, in ascending order, the first offset."""
+    # of the offsets of a kind the first one stays
+    backwards = starts[::-1]
+    first = dict(zip(map(items.kinds.__getitem__, backwards), backwards))
+    apart = [at for at in starts if not items.kinds[at]] if first.pop(0, None) is not None else []
     found: Dict[str, int] = {}
-    for key, at in first.items():
-        for feature in features_of(program.bits, key, items.structs[key]):
+    for kind, at in first.items():
+        fields = items.structs[kind]
+        for feature in features_of(program.bits, key_of(fields), fields):
             found[feature] = min(at, found.get(feature, at))
     # instructions that the linear listing reads otherwise
     for at in apart:
@@ -264,11 +394,9 @@ def needs_of(program: Program) -> Needs:
     """What a file needs."""
     survey = _Survey(program)
     functions = {it for it in program.functions if survey.in_code(it)}
-    if functions:
-        cases = {target for targets in survey.cases.values() for target in targets}
-        entries = survey.reached_entries() if not program.is_object else functions | cases
-        reached = survey.part(entries)
-        everything = survey.part(functions | entries | cases)
+    if survey.all_entries:
+        everything = survey.part(survey.all_entries)
+        reached = everything if program.is_object else survey.part(survey.reached_entries())
     else:
         reached = everything = survey.part(None)
     resolvers = [it.name for it in program.functions.values() if it.ifunc]

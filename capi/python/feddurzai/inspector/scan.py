@@ -4,7 +4,7 @@ from __future__ import annotations
 
 import struct
 from ctypes import byref, c_char_p, c_size_t, c_uint8, c_uint32, c_void_p, cast
-from itertools import accumulate, chain
+from itertools import accumulate, chain, compress
 from typing import Dict, FrozenSet, Iterable, Iterator, List, NamedTuple, Optional, Sequence, Tuple
 
 from .. import _checks, _native
@@ -20,6 +20,8 @@ _OP_SIZE, _KIND_AT, _BASE_AT = 24, 14, 15
 _KINDS_AT = tuple(_OP_SIZE * n + _KIND_AT for n in range(4))
 _Room = _native.room_of(CHUNK * SIZE)
 _VALUE = struct.Struct("=Q")
+# a struct in numbers of eight bytes: each operand begins with one, its value
+_STEP = SIZE // 8
 # no row has a code with this high byte: the item is a single byte
 BAD = 0xFF
 _POINTERS = (RegClass.EIP, RegClass.RIP)
@@ -58,6 +60,11 @@ def key_of(fields: bytes) -> Tuple[int, ...]:
     return (fields[LOW_AT], fields[HIGH_AT], *(fields[at] for at in _KINDS_AT))
 
 
+def code_of(fields: bytes) -> int:
+    """The code of one struct."""
+    return fields[LOW_AT] + 256 * fields[HIGH_AT]
+
+
 def chunks(bits: int, start: int, code: bytes) -> Iterator[Chunk]:
     """The items of some code, from its first byte on."""
     room, count = _Room(), c_size_t()
@@ -70,13 +77,12 @@ def chunks(bits: int, start: int, code: bytes) -> Iterator[Chunk]:
         at += sum(chunk.lengths)
 
 
-def _places(data: bytes, value: int) -> Iterator[int]:
+_ONLY = [bytes(int(byte == value) for byte in range(256)) for value in range(256)]
+
+
+def _places(data: bytes, value: int) -> List[int]:
     """The indices of a byte."""
-    wanted = bytes((value,))
-    at = data.find(wanted)
-    while at >= 0:
-        yield at
-        at = data.find(wanted, at + 1)
+    return list(compress(range(len(data)), data.translate(_ONLY[value])))
 
 
 class Reference(NamedTuple):
@@ -90,16 +96,27 @@ class Reference(NamedTuple):
 def references(chunk: Chunk) -> Iterator[Reference]:
     """The items of a chunk that name an address."""
     structs = chunk.structs
+    values = memoryview(structs).cast("Q")
     for slot in range(3):
         kinds = structs[_OP_SIZE * slot + _KIND_AT :: SIZE]
+        at = _OP_SIZE // 8 * slot
         if slot == 0:
             for n in _places(kinds, OperandKind.NEAR):
-                yield Reference(n, _VALUE.unpack_from(structs, n * SIZE)[0], True)
+                yield Reference(n, values[n * _STEP + at], True)
         bases = structs[_OP_SIZE * slot + _BASE_AT :: SIZE]
         for pointer in _POINTERS:
-            for n in _places(bases, pointer):
-                if kinds[n] == OperandKind.MEMORY:
-                    yield Reference(n, _VALUE.unpack_from(structs, n * SIZE + _OP_SIZE * slot)[0], False)
+            if pointer in bases:
+                for n in _places(bases, pointer):
+                    if kinds[n] == OperandKind.MEMORY:
+                        yield Reference(n, values[n * _STEP + at], False)
+
+
+def immediates(chunk: Chunk) -> Iterator[Tuple[int, int]]:
+    """The items of a chunk with an immediate as first or second operand, and its value."""
+    values = memoryview(chunk.structs).cast("Q")
+    for slot in range(2):
+        for n in _places(chunk.structs[_OP_SIZE * slot + _KIND_AT :: SIZE], OperandKind.IMMEDIATE):
+            yield n, values[n * _STEP + _OP_SIZE // 8 * slot]
 
 
 _FLOWS: Dict[Tuple[int, int], Flow] = {}
@@ -122,8 +139,7 @@ def features_of(bits: int, key: Tuple[int, ...], fields: bytes) -> FrozenSet[str
     TZCNT needs none: compilers write `rep bsf` into code for every processor, which runs as BSF without BMI1.
     """
     if (bits, key) not in _FEATURES:
-        code = fields[LOW_AT] + 256 * fields[HIGH_AT]
-        _FEATURES[bits, key] = frozenset() if name_of(code) == "tzcnt" else effects_of(bits, fields).features
+        _FEATURES[bits, key] = frozenset() if name_of(code_of(fields)) == "tzcnt" else effects_of(bits, fields).features
     return _FEATURES[bits, key]
 
 

@@ -48,24 +48,43 @@ def _last(before: Sequence[Instr], register: Register, names: Tuple[str, ...]) -
     return None
 
 
+def _shift(item: Instr) -> Optional[Tuple[Register, int]]:
+    """The register from which an instruction makes its result, and what is subtracted, if it makes it by a constant."""
+    source = item.ops[1] if len(item.ops) > 1 else None
+    if item.name in ("mov", "movzx", "movsxd") and isinstance(source, Register):
+        return source, 0
+    if item.name in ("sub", "add") and isinstance(source, Immediate) and isinstance(item.ops[0], Register):
+        value = source.value - (1 << 64) if source.value >> 63 else source.value
+        return item.ops[0], value if item.name == "sub" else -value
+    if item.name == "lea" and isinstance(source, Memory) and source.base is not None and source.index is None:
+        value = source.displacement
+        return source.base, (1 << 64) - value if value >> 63 else -value
+    return None
+
+
 def _bound(before: Sequence[Instr], index: Register) -> Optional[int]:
-    """The number of entries of a table, from the comparison of its index."""
-    aliases = [index]
+    """The number of entries of a table, from the comparison of its index, or of what it is made from by subtracting a constant."""
+    aliases, shift = [index], 0
     limit: Optional[str] = None
     for item in reversed(before):
         ops = item.ops
+        known = bool(ops) and isinstance(ops[0], Register) and any(_same(ops[0], it) for it in aliases)
         if item.name in ABOVE + ABOVE_OR_EQUAL:
             limit = item.name
-        elif item.name == "cmp" and isinstance(ops[1], Immediate) and isinstance(ops[0], Register) and any(_same(ops[0], it) for it in aliases):
-            if limit is None:
+        elif not known:
+            continue
+        elif item.name == "cmp":
+            if limit is None or not isinstance(ops[1], Immediate):
                 return None
-            return ops[1].value + (limit in ABOVE)
-        elif item.name == "and" and isinstance(ops[1], Immediate) and isinstance(ops[0], Register) and any(_same(ops[0], it) for it in aliases):
-            return ops[1].value + 1
-        elif item.name in ("mov", "movzx", "movsxd") and isinstance(ops[0], Register) and any(_same(ops[0], it) for it in aliases):
-            if not isinstance(ops[1], Register):
+            return ops[1].value + (limit in ABOVE) - shift
+        elif item.name == "and":
+            return ops[1].value + 1 - shift if isinstance(ops[1], Immediate) else None
+        elif item.info().access[0] & feddurzai.Access.WRITE:
+            made = _shift(item)
+            if made is None:
                 return None
-            aliases.append(ops[1])
+            # an earlier comparison is of what the constant is subtracted from
+            aliases, shift = [made[0]] if made[1] else [*aliases, made[0]], shift + made[1]
     return None
 
 

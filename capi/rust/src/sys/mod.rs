@@ -18,13 +18,17 @@ pub use structs::*;
 use crate::error::Error;
 use crate::generated::INTERFACE;
 use core::fmt;
-use core::mem::MaybeUninit;
 use core::sync::atomic::{AtomicBool, Ordering};
+
+#[cfg(feature = "alloc")]
+use alloc::string::String;
 
 /// The longest instruction, in bytes.
 pub const MAX_LEN: usize = 15;
 /// The longest text with its terminating 0, in bytes.
 pub const MAX_TEXT: usize = 161;
+/// The text of bytes that are no instruction.
+pub const BAD: &str = "(bad)";
 /// The longest jump or call, in bytes.
 pub const MAX_JUMP: usize = 16;
 /// The longest code of a step, in bytes.
@@ -212,28 +216,47 @@ pub fn version() -> u32 {
 /// ```
 #[derive(Clone, Copy)]
 pub struct Text {
-    bytes: [MaybeUninit<u8>; MAX_TEXT],
+    bytes: [u8; MAX_TEXT],
     len: usize,
+}
+
+/// The number of bytes in front of the first 0, 16 at a time.
+#[cfg(target_arch = "x86_64")]
+#[inline]
+fn len_to_zero(bytes: &[u8; MAX_TEXT]) -> usize {
+    use core::arch::x86_64::{_mm_cmpeq_epi8, _mm_loadu_si128, _mm_movemask_epi8, _mm_setzero_si128};
+    for (at, part) in bytes.chunks_exact(16).enumerate() {
+        // SAFETY: each x86-64 processor has SSE2, and `part` has 16 readable bytes; the load needs no alignment.
+        let zeros = unsafe {
+            let found = _mm_cmpeq_epi8(_mm_loadu_si128(part.as_ptr().cast()), _mm_setzero_si128());
+            _mm_movemask_epi8(found)
+        };
+        if zeros != 0 {
+            return 16 * at + zeros.trailing_zeros() as usize;
+        }
+    }
+    MAX_TEXT - 1
+}
+
+/// The number of bytes in front of the first 0.
+#[cfg(not(target_arch = "x86_64"))]
+#[inline]
+fn len_to_zero(bytes: &[u8; MAX_TEXT]) -> usize {
+    bytes.iter().position(|&byte| byte == 0).unwrap_or(MAX_TEXT - 1)
 }
 
 impl Text {
     /// An empty text.
     #[must_use]
     #[inline]
-    pub fn new() -> Text {
-        let mut text = MaybeUninit::<Text>::uninit();
-        // a constant with undefined bytes would be copied
-        // SAFETY: `len` is initialized, and an array of `MaybeUninit` needs no initialization.
-        unsafe {
-            core::ptr::addr_of_mut!((*text.as_mut_ptr()).len).write(0);
-            text.assume_init()
-        }
+    pub const fn new() -> Text {
+        Text { bytes: [0; MAX_TEXT], len: 0 }
     }
 
     /// Lets a function of the library write the text, and returns its status. A status of 0 or more is the length.
     #[inline]
     fn filled(&mut self, write: impl FnOnce(*mut u8, usize) -> i32) -> i32 {
-        let status = write(self.bytes.as_mut_ptr().cast(), MAX_TEXT);
+        let status = write(self.bytes.as_mut_ptr(), MAX_TEXT);
         self.len = if status >= 0 { (status as usize).min(MAX_TEXT) } else { 0 };
         status
     }
@@ -241,28 +264,21 @@ impl Text {
     /// Lets a function of the library write the text, and returns its status, which is not the length of the text.
     #[inline]
     fn filled_to_zero(&mut self, write: impl FnOnce(*mut u8, usize) -> i32) -> i32 {
-        let status = write(self.bytes.as_mut_ptr().cast(), MAX_TEXT);
-        self.len = 0;
-        if status >= 0 {
-            // SAFETY: a function of the library that succeeds has written the bytes up to the terminating 0.
-            self.len = self.bytes.iter().take_while(|byte| unsafe { byte.assume_init() } != 0).count();
-        }
+        let status = write(self.bytes.as_mut_ptr(), MAX_TEXT);
+        self.len = if status >= 0 { len_to_zero(&self.bytes) } else { 0 };
         status
     }
 
     /// Sets the text of bytes that are no instruction: `(bad)`.
     pub(crate) fn set_bad(&mut self) {
-        const BAD: &[u8] = b"(bad)";
-        self.bytes.iter_mut().zip(BAD).for_each(|(to, from)| *to = MaybeUninit::new(*from));
+        self.bytes.iter_mut().zip(BAD.bytes()).for_each(|(to, from)| *to = from);
         self.len = BAD.len();
     }
 
     /// The bytes of the text.
     #[inline]
     fn written(&self) -> &[u8] {
-        // SAFETY: `len` is the number of bytes that a function of the library, or `set_bad`, has written to the front of the
-        // buffer, and at most its size.
-        unsafe { core::slice::from_raw_parts(self.bytes.as_ptr().cast(), self.len) }
+        self.bytes.get(..self.len).unwrap_or(&self.bytes)
     }
 
     /// The text.
@@ -270,7 +286,8 @@ impl Text {
     #[inline]
     pub fn as_str(&self) -> &str {
         debug_assert!(self.written().is_ascii());
-        // SAFETY: the texts of the library are ASCII: the contracts of its printers name the bytes.
+        // SAFETY: `len` is the number of bytes that a function of the library, or `set_bad`, has written to the front of the
+        // buffer, and the texts of the library are ASCII: the contracts of its printers name the bytes.
         unsafe { core::str::from_utf8_unchecked(self.written()) }
     }
 }
@@ -371,6 +388,25 @@ impl Library {
     pub fn text(self, bits: u32, syntax: u32, instr: &Instr, text: &mut Text) -> i32 {
         // SAFETY: `instr` is a struct of the header, and `out` has `room` writable bytes.
         text.filled(|out, room| unsafe { feddurzai_text(bits, syntax, instr, out, room) })
+    }
+
+    /// Appends the text to a string: the function writes it behind the string's own bytes.
+    #[cfg(feature = "alloc")]
+    #[inline]
+    pub fn append_text(self, bits: u32, syntax: u32, instr: &Instr, string: &mut String) -> i32 {
+        string.reserve(MAX_TEXT);
+        // SAFETY: `reserve` has made room for MAX_TEXT bytes behind the string's own; the function writes no others. After
+        // success the first `status` of them are ASCII (the contracts of its printers name the bytes), so the string is
+        // UTF-8 as before, and its length at most its capacity. After a failure the string is as before.
+        unsafe {
+            let bytes = string.as_mut_vec();
+            let len = bytes.len();
+            let status = feddurzai_text(bits, syntax, instr, bytes.as_mut_ptr().add(len), MAX_TEXT);
+            if status > 0 {
+                bytes.set_len(len + (status as usize).min(MAX_TEXT));
+            }
+            status
+        }
     }
 
     #[inline]

@@ -9,6 +9,13 @@ macro_rules! structs {
             #[repr(C)]
             #[derive(Clone, Copy, Debug, Default, PartialEq, Eq, Hash)]
             pub struct $name { $(pub $field: $kind,)* }
+
+            #[allow(dead_code)]
+            impl $name {
+                /// The struct with all fields 0.
+                // SAFETY: all fields are integers, or arrays or structs of integers.
+                pub const ZERO: $name = unsafe { core::mem::transmute([0_u8; core::mem::size_of::<$name>()]) };
+            }
         )*
 
         /// Calls `seen` with the name in C, the size, and the offset of each field of each struct.
