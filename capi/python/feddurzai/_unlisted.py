@@ -1,7 +1,5 @@
 """Instructions that the opcode table leaves out: their lengths, by the encoding formats alone."""
 
-from __future__ import annotations
-
 import struct
 from typing import NamedTuple, Optional, Tuple
 
