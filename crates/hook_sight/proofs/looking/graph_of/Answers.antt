@@ -1,0 +1,4 @@
+use Rattle.hook_sight.proofs.looking.graph_of.Goals as goal
+
+pub returns : goal.returns
+returns c = ?

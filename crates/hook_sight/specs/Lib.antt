@@ -1,0 +1,5 @@
+pub mod Sight
+pub mod Entries
+pub mod Suspects
+pub mod Views
+pub mod Keeping
