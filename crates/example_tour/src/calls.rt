@@ -6,7 +6,7 @@ use feddurzai::decoding::{Decoder, Items, decode_in, read_items};
 use feddurzai::encoding::{encode, encoded_len};
 use feddurzai::flow::graph_of_code;
 use feddurzai::format::{Intel, Style, ascii_str, print_att};
-use feddurzai::hooks::{Hooks, StartTarget, detour};
+use feddurzai::hooks::{Hooks, StartRule, StartTarget, detour, look};
 use feddurzai::info::{
     Features, FlagSet, all_memory, all_registers, flags_of, laws, needed_features,
 };
@@ -182,6 +182,25 @@ fn hook_function(rt: &HostRuntime) -> anyhow::Result<()> {
     Ok(())
 }
 
+/// Looks at a function whose first six bytes a hook overwrites.
+fn see_function(rt: &HostRuntime) -> anyhow::Result<()> {
+    // mov rax, [rdi]; mov rcx, rax; an instruction that the table does not have; jmp to the second one; ret
+    let code = b"\x48\x8b\x07\x48\x89\xc1\x62\xf1\x7c\x48\x28\xc1\xeb\xf5\xc3";
+    let view = look(
+        rt.alloc(),
+        Bits::B64,
+        0x40_1000,
+        code,
+        &[],
+        6,
+        &[0, 3],
+        StartRule::Closed,
+    )?;
+    println!(rt; "{:?}", view.sight)?; // Ends { at: 6, why: NotRead }
+    println!(rt; "{:?}", view.suspect)?; // Some(Passage { from: 12, target: 3 })
+    Ok(())
+}
+
 /// Keeps a hook in a range of trampolines.
 fn keep_hook(rt: &HostRuntime) -> anyhow::Result<()> {
     let mut hooks = Hooks::make(rt.alloc(), Bits::B64, 0x60_0000, 4096, 64)?;
@@ -233,6 +252,7 @@ pub fn run(rt: &HostRuntime) -> anyhow::Result<()> {
     step_one(rt)?;
     follow_control(rt)?;
     hook_function(rt)?;
+    see_function(rt)?;
     keep_hook(rt)?;
     list_function(rt)
 }

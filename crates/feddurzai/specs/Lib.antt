@@ -75,6 +75,11 @@ pub use Rattle.detour.specs.HookSlots.Removing as HookRemovals
 pub use Rattle.detour.specs.HookSlots.Holding as HookHolding
 pub use Rattle.detour.specs.HookSlots.Running as HookCommands
 pub use Rattle.detour.specs.HookSlots.Facts as HookFacts
+pub use Rattle.hook_sight.specs.Sight as HookSight
+pub use Rattle.hook_sight.specs.Entries as HookEntries
+pub use Rattle.hook_sight.specs.Suspects as HookSuspects
+pub use Rattle.hook_sight.specs.Views as HookViews
+pub use Rattle.hook_sight.specs.Keeping as HookKeeping
 -- streams
 pub use Rattle.byte_ports.specs.Ports
 pub use Rattle.sweep.specs.Streams

@@ -23,9 +23,11 @@ use Rattle.hook_sight.proofs.Places.{at_place, at_lesser}
 
 -- ---- tests
 
+-- a test that is true, as a fact
 pub is_true : {b : Bool} → b ≡ true → IsTrue b
 is_true e = search rules
 
+-- and back
 pub from_true : {b : Bool} → IsTrue b → b ≡ true
 from_true h = search rules
 

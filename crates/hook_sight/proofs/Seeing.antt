@@ -60,16 +60,18 @@ module _ (code : CodeBytes) (firsts : List ℕ) (graph : Graph) (is : IsFlowGrap
   starts_reached p has =
       All-contains (ReachesFrom code firsts) graph.starts p is.reached (subst (λ (xs : List ℕ). Contains xs p) same has)
 
+  -- and all of that
   pub reached_starts : (p : ℕ) → ReachesFrom code firsts p → Contains starts p
   reached_starts p reached = subst (λ (xs : List ℕ). Contains xs p) (sym same) (is.complete p reached)
 
-  -- in the code, and in ascending order
+  -- they stand in the code
   pub starts_inside : All (λ p. p < length code.bytes) starts
   starts_inside =
       subst (All (λ p. p < length code.bytes)) (sym same)
       (All-from_get_or (λ p. p < length code.bytes) graph.starts 0
       (λ i l. reached_inside code firsts (get_or graph.starts i 0) (All-get_or (ReachesFrom code firsts) graph.starts i 0 l is.reached)))
 
+  -- and ascend
   pub starts_ascend : IsStrictlyIncreasing starts
   starts_ascend = subst IsStrictlyIncreasing (sym same) is.ascending
 

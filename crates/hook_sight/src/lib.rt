@@ -9,5 +9,4 @@ mod passages;
 mod suspects;
 
 pub use answers::{Passage, Sight, SightEnd, StartRule, View};
-pub use flow_graph::FlowError;
 pub use looking::look;

@@ -85,9 +85,18 @@ fn view_of(
 /// The only error is `Memory`.
 ///
 /// ```
-/// // mov rax, [rdi]; mov rcx, rax; (an instruction that the table does not have); jmp back into the first five bytes; ret
+/// // mov rax, [rdi]; mov rcx, rax; an instruction that the table does not have; jmp to the second one; ret
 /// let code = b"\x48\x8b\x07\x48\x89\xc1\x62\xf1\x7c\x48\x28\xc1\xeb\xf5\xc3";
-/// let view = look(rt.alloc(), Bits::B64, 0x40_1000, code, &[], 5, &[0, 3], StartRule::Closed)?;
+/// let view = look(
+///     rt.alloc(),
+///     Bits::B64,
+///     0x40_1000,
+///     code,
+///     &[],
+///     6,
+///     &[0, 3],
+///     StartRule::Closed,
+/// )?;
 /// println!(rt; "{:?}", view.sight)?; // Ends { at: 6, why: NotRead }
 /// println!(rt; "{:?}", view.suspect)?; // Some(Passage { from: 12, target: 3 })
 /// ```
