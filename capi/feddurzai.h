@@ -23,8 +23,9 @@
  * Threads: the library has no global state and takes no locks, so any number of threads may call it at once.
  *
  * Memory: feddurzai_move, feddurzai_move_outside, feddurzai_move_blocks, feddurzai_step, feddurzai_flow,
- * feddurzai_flow_from and feddurzai_detour call malloc, realloc and free, and free all that they allocate before they
- * return. All other functions allocate nothing and may be called from a signal handler or from a hook of malloc.
+ * feddurzai_flow_from, feddurzai_detour and feddurzai_look call malloc, realloc and free, and free all that they
+ * allocate before they return. All other functions allocate nothing and may be called from a signal handler or from a
+ * hook of malloc.
  *
  * The header is C99 and C++. Numbers are in the machine's byte order. Lengths and sizes are in bytes. "SDM" is the
  * Intel 64 and IA-32 Architectures Software Developer's Manual; sections are of its volume 2 if no volume is named. The
@@ -43,7 +44,7 @@ extern "C" {
 /* ---- versions ---------------------------------------------------------------------------------------------- */
 
 /* The interface that this header declares. It rises when a struct, a number or a function changes. */
-#define FEDDURZAI_INTERFACE 5
+#define FEDDURZAI_INTERFACE 6
 
 /*
  * Returns the interface of the linked library. If it is not FEDDURZAI_INTERFACE, the library does not match this
@@ -88,7 +89,7 @@ enum {
     FEDDURZAI_NO_TEXT = -16,        /* no instruction that can be encoded at the address has this text */
     FEDDURZAI_NO_REGISTER = -17,    /* no register has this class and number; no prefix names this segment */
     FEDDURZAI_BAD_JUMP = -18,       /* the form is not one of FEDDURZAI_JUMP_SHORT .. FEDDURZAI_CALL_FAR */
-    FEDDURZAI_BAD_START = -19,      /* start is not FEDDURZAI_START_MOVED or FEDDURZAI_START_HOOKED */
+    FEDDURZAI_BAD_START = -19,      /* start is not one of the two numbers that the function takes */
     FEDDURZAI_SMALL = -20,          /* the function is shorter than the jump */
     FEDDURZAI_ENDS = -21,           /* control ends within the overwritten bytes, and other code follows there */
     FEDDURZAI_ENTERED = -22,        /* control may enter the overwritten bytes after the first one */
@@ -1340,6 +1341,65 @@ int32_t feddurzai_detour(uint32_t bits, uint64_t ip, const uint8_t *code, size_t
     uint32_t start, uint8_t *patch, size_t patch_room, uint8_t *trampoline, size_t trampoline_room,
     feddurzai_detour_report *report);
 
+/* Whether control after the overwritten bytes may go back to the start of the function. */
+enum {
+    FEDDURZAI_START_OPEN = 0,       /* it may */
+    FEDDURZAI_START_CLOSED = 1      /* only calls may: a loop to the start would reach the replacement */
+};
+
+/* Why sight of a function ends. */
+enum {
+    FEDDURZAI_SIGHT_WHOLE = 0,          /* it does not end */
+    FEDDURZAI_SIGHT_NOT_READ = 1,       /* no instruction of the table begins there */
+    FEDDURZAI_SIGHT_INDIRECT_JUMP = 2,  /* a jump to an address in a register or in memory */
+    FEDDURZAI_SIGHT_ENDED = 3           /* the code ends within the instruction, or control runs off its end */
+};
+
+/* What feddurzai_look sees. Offsets count from the first byte of the function; what is not there is 0. */
+typedef struct feddurzai_view {
+    uint64_t sight_at;          /* the first reached offset at which sight ends */
+    uint64_t entered_from;      /* the first reached offset from which control enters the overwritten bytes */
+    uint64_t entered_target;    /* the offset to which it goes */
+    uint64_t inside;            /* the least entry within the overwritten bytes after the first one */
+    uint64_t suspect_from;      /* if sight ends: the first offset that was not reached and would enter them */
+    uint64_t suspect_target;    /* the offset to which it would go */
+    uint8_t sight;              /* FEDDURZAI_SIGHT_WHOLE .. */
+    uint8_t is_entered;         /* 1 if control enters */
+    uint8_t has_inside;         /* 1 if an entry is within */
+    uint8_t has_suspect;        /* 1 if there is a suspect */
+} feddurzai_view;
+
+/*
+ * Looks at a function before a hook overwrites its first bytes: how far control can be followed, and whether it enters
+ * those bytes. It refuses no function; what it reports is for the caller to weigh (docs/hooks.md, "What is seen").
+ *
+ *  - bits, ip, code, len: as in feddurzai_detour.
+ *  - entries, entry_count: further offsets at which control comes in, in any order: targets of jump tables, landing
+ *    pads, a .cold part. 0 adds nothing, and offsets of `len` or more are ignored.
+ *  - taken: how many bytes the hook overwrites.
+ *  - moved, moved_count: the offsets at which the instructions begin that it moves to its trampoline. Control may go
+ *    from one of them to another.
+ *  - start: FEDDURZAI_START_OPEN or FEDDURZAI_START_CLOSED.
+ *  - view: receives what is seen.
+ *
+ * Control is followed from the first byte and the entries as by feddurzai_flow_from. It enters where it goes from
+ * behind the overwritten bytes into them after the first one, or from a moved instruction to where none begins; with
+ * FEDDURZAI_START_CLOSED also where it goes to the start from behind them, unless it is a call. If sight ends anywhere,
+ * each offset behind the overwritten bytes that was not reached is read as an instruction too. The first one that would
+ * enter in this way is the suspect; it may be data.
+ *
+ * Returns 0, or FEDDURZAI_BAD_MODE, _BAD_START, _TOO_LARGE (more than FEDDURZAI_MAX_CODE bytes), _NO_MEMORY; then *view is
+ * unchanged. The call allocates memory.
+ *
+ *     static const uint32_t moved_at[] = {0};
+ *     // jmp rax; three nops; jmp 0
+ *     said = feddurzai_look(64, 0x1000, (const uint8_t *)"\xff\xe0\x90\x90\x90\xeb\xf9", 7, NULL, 0, 5, moved_at, 1,
+ *         FEDDURZAI_START_CLOSED, &view);
+ *     // said is 0. Sight ends at 0, FEDDURZAI_SIGHT_INDIRECT_JUMP, and the jump at 5 is a suspect: it goes to 0
+ */
+int32_t feddurzai_look(uint32_t bits, uint64_t ip, const uint8_t *code, size_t len, const uint32_t *entries,
+    size_t entry_count, uint64_t taken, const uint32_t *moved, size_t moved_count, uint32_t start, feddurzai_view *view);
+
 /* ---- null pointers ----------------------------------------------------------------------------------------- */
 
 /*
@@ -1614,6 +1674,17 @@ static inline int32_t feddurzai_checked_detour(uint32_t bits, uint64_t ip, const
     return feddurzai_detour(bits, ip, code, len, to, place, start, patch, patch_room, trampoline, trampoline_room, report);
 }
 
+static inline int32_t feddurzai_checked_look(uint32_t bits, uint64_t ip, const uint8_t *code, size_t len,
+    const uint32_t *entries, size_t entry_count, uint64_t taken, const uint32_t *moved, size_t moved_count, uint32_t start,
+    feddurzai_view *view)
+{
+    if (feddurzai_is_null(code, len) || feddurzai_is_null(entries, entry_count))
+        return FEDDURZAI_NULL;
+    if (feddurzai_is_null(moved, moved_count) || view == NULL)
+        return FEDDURZAI_NULL;
+    return feddurzai_look(bits, ip, code, len, entries, entry_count, taken, moved, moved_count, start, view);
+}
+
 #define feddurzai_decode feddurzai_checked_decode
 #define feddurzai_decode_many feddurzai_checked_decode_many
 #define feddurzai_offsets feddurzai_checked_offsets
@@ -1646,6 +1717,7 @@ static inline int32_t feddurzai_checked_detour(uint32_t bits, uint64_t ip, const
 #define feddurzai_flow feddurzai_checked_flow
 #define feddurzai_flow_from feddurzai_checked_flow_from
 #define feddurzai_detour feddurzai_checked_detour
+#define feddurzai_look feddurzai_checked_look
 
 #ifdef __cplusplus
 }

@@ -252,6 +252,22 @@ static void hooked(void)
     CHECK(report.jump_back, 6);
 }
 
+static void looked(void)
+{
+    feddurzai_view view;
+    static const uint32_t moved_at[] = {0};
+    // jmp rax; three nops; jmp 0
+    said = feddurzai_look(64, 0x1000, (const uint8_t *)"\xff\xe0\x90\x90\x90\xeb\xf9", 7, NULL, 0, 5, moved_at, 1,
+        FEDDURZAI_START_CLOSED, &view);
+    // said is 0. Sight ends at 0, FEDDURZAI_SIGHT_INDIRECT_JUMP, and the jump at 5 is a suspect: it goes to 0
+    CHECK(said, 0);
+    CHECK(view.sight, FEDDURZAI_SIGHT_INDIRECT_JUMP);
+    CHECK(view.sight_at, 0);
+    CHECK(view.is_entered | view.has_inside, 0);
+    CHECK(view.has_suspect, 1);
+    CHECK(view.suspect_from << 8 | view.suspect_target, 5 << 8);
+}
+
 int main(void)
 {
     CHECK(versions(), 0);
@@ -267,6 +283,7 @@ int main(void)
     stepped();
     followed();
     hooked();
+    looked();
     printf("%d checks of the header's examples, %d failed\n", tests, failures);
     return failures != 0;
 }

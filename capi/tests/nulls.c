@@ -25,6 +25,7 @@ enum { SPARE = 16 };
 static feddurzai_instr instr, unread;
 static feddurzai_byte_offsets parts;
 static feddurzai_shape shape;
+static feddurzai_view view;
 static feddurzai_about about;
 static feddurzai_touched touched;
 static feddurzai_move_report report;
@@ -197,6 +198,10 @@ static void check_nulls(void)
     CHECK(feddurzai_flow_from(64, 0, code, 4, firsts, 2, NULL, 3, leaders, 3, kinds, 3), FEDDURZAI_NULL);
     CHECK(feddurzai_flow_from(64, 0, code, 4, firsts, 2, starts, 3, NULL, 3, kinds, 3), FEDDURZAI_NULL);
     CHECK(feddurzai_flow_from(64, 0, code, 4, firsts, 2, starts, 3, leaders, 3, NULL, 3), FEDDURZAI_NULL);
+    CHECK(feddurzai_look(64, 0, NULL, 4, firsts, 2, 2, firsts, 2, 0, &view), FEDDURZAI_NULL);
+    CHECK(feddurzai_look(64, 0, code, 4, NULL, 2, 2, firsts, 2, 0, &view), FEDDURZAI_NULL);
+    CHECK(feddurzai_look(64, 0, code, 4, firsts, 2, 2, NULL, 2, 0, &view), FEDDURZAI_NULL);
+    CHECK(feddurzai_look(64, 0, code, 4, firsts, 2, 2, firsts, 2, 0, NULL), FEDDURZAI_NULL);
 
     /* before every other refusal, and no cause of the encoder's */
     CHECK(feddurzai_decode(17, 0, code, 4, NULL), FEDDURZAI_NULL);
@@ -316,6 +321,7 @@ static void check_zeros(void)
     CHECK(feddurzai_effects(0, &zeros, &touched), FEDDURZAI_BAD_MODE);
     CHECK(feddurzai_flow(0, 0, NULL, 0, NULL, 0, NULL, 0), FEDDURZAI_BAD_MODE);
     CHECK(feddurzai_flow_from(0, 0, NULL, 0, NULL, 0, NULL, 0, NULL, 0, NULL, 0), FEDDURZAI_BAD_MODE);
+    CHECK(feddurzai_look(0, 0, NULL, 0, NULL, 0, 0, NULL, 0, 0, &view), FEDDURZAI_BAD_MODE);
     CHECK(feddurzai_name(0, NULL, 0), FEDDURZAI_NO_ROOM);
     CHECK(feddurzai_notation(0, NULL, 0), FEDDURZAI_NO_ROOM);
     CHECK(feddurzai_row_operand(0, 0, &access, NULL, 0), FEDDURZAI_NO_ROOM);

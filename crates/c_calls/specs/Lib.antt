@@ -18,6 +18,7 @@ pub mod FlowFrom
 pub mod Moving
 pub mod Blocks
 pub mod Hooks
+pub mod Looking
 pub mod Steps
 pub mod Failing
 pub mod Regions

@@ -315,3 +315,29 @@ pub struct FlatShape {
     /// How many bytes the number has.
     pub len: u8,
 }
+
+/// What is seen of a function whose first bytes a hook overwrites. What is not there is 0.
+#[derive(Clone, Copy)]
+#[repr(C)]
+pub struct FlatView {
+    /// The first reached offset at which sight ends.
+    pub sight_at: u64,
+    /// The first reached offset from which control enters what is overwritten.
+    pub entered_from: u64,
+    /// The offset to which it goes.
+    pub entered_target: u64,
+    /// The least entry within what is overwritten.
+    pub inside: u64,
+    /// The first offset that was not reached, and would enter what is overwritten.
+    pub suspect_from: u64,
+    /// The offset to which it would go.
+    pub suspect_target: u64,
+    /// Why sight ends: 1 no instruction is read, 2 an indirect jump, 3 the code ends; 0 if it is whole.
+    pub sight: u8,
+    /// 1 if control enters, else 0.
+    pub is_entered: u8,
+    /// 1 if an entry is within, else 0.
+    pub has_inside: u8,
+    /// 1 if there is a suspect, else 0.
+    pub has_suspect: u8,
+}

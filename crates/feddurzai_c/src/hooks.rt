@@ -1,9 +1,10 @@
-//! Detours of functions.
+//! Detours of functions, and what is seen of a function before one is made.
 
 ghost use Rattle.c_calls.specs.Hooks.{IsDetourCall};
+ghost use Rattle.c_calls.specs.Looking.{IsLook};
 
-use c_calls::flat::FlatDetour;
-use c_calls::hooks;
+use c_calls::flat::{FlatDetour, FlatView};
+use c_calls::{hooks, sight};
 use std::alloc::Global;
 
 /// Makes a detour of the function whose bytes from its first one on, at the address `ip`, are `code`, to the replacement at the address `to`. `patch` receives
@@ -39,4 +40,34 @@ pub extern "C" fn feddurzai_detour(
     hooks::make_detour(
         alloc, bits, ip, code, to, place, start, patch, trampoline, report,
     )
+}
+
+/// Writes what is seen of the function whose bytes from its first one on, at the address `ip`, are `code`, and whose first `taken` bytes a hook overwrites.
+/// It returns 0.
+///
+/// `entries` are further offsets at which control comes in; one past the end of the bytes adds nothing. `moved` are the offsets at which the instructions
+/// begin that the hook moves. Control is followed from the first byte and from the entries, as in `feddurzai_flow_from`. Sight ends at the first reached
+/// offset where no instruction is read (1), or an indirect jump (2), or where the code ends within an instruction or after one that goes on (3). Control
+/// enters if it goes from a reached offset behind the overwritten bytes into them, after the first one, or from a moved instruction to where none begins;
+/// with `start` 1 also if it goes to the start from behind them, but not by a call. An entry within the overwritten bytes after the first one is reported. If
+/// sight ends, the first offset behind them is too that was not reached and is read as an instruction which enters them so. Of several the one from the least
+/// offset is reported, with the least target.
+///
+/// Refusals: `Mode`, `Start` if `start` is neither 0 nor 1, `TooLarge` above 1,048,576 bytes, `Memory`. The struct is then unchanged. The call allocates from
+/// the C library, and frees what it took.
+#[unsafe(no_mangle)]
+pub extern "C" fn feddurzai_look(
+    alloc: Global,
+    bits: u32,
+    ip: u64,
+    code: &[u8],
+    entries: &[u32],
+    taken: u64,
+    moved: &[u32],
+    start: u32,
+    view: &mut FlatView,
+) -> i32
+    ensures { IsLook bits ip code.now entries.now taken moved.now start view.old view.new result }
+{
+    sight::look(alloc, bits, ip, code, entries, taken, moved, start, view)
 }

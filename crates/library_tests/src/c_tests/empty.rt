@@ -2,7 +2,7 @@
 
 use c_calls::flat::{
     FlatBlocks, FlatDetour, FlatInfo, FlatInstr, FlatMemoryUse, FlatMove, FlatMoved, FlatOffsets,
-    FlatOperand, FlatPart, FlatPlace, FlatShape, FlatStep, FlatTouched, FlatUse,
+    FlatOperand, FlatPart, FlatPlace, FlatShape, FlatStep, FlatTouched, FlatUse, FlatView,
 };
 
 const NO_OPERAND: FlatOperand = FlatOperand {
@@ -140,6 +140,20 @@ pub(crate) const NO_DETOUR: FlatDetour = FlatDetour {
     at: 9,
     target: 9,
     form: 0,
+};
+
+/// Numbers that are none, so that a call that leaves them is seen.
+pub(crate) const NO_VIEW: FlatView = FlatView {
+    sight_at: 9,
+    entered_from: 9,
+    entered_target: 9,
+    inside: 9,
+    suspect_from: 9,
+    suspect_target: 9,
+    sight: 9,
+    is_entered: 9,
+    has_inside: 9,
+    has_suspect: 9,
 };
 
 pub(crate) const NO_STEP: FlatStep = FlatStep {

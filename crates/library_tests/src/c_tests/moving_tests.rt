@@ -1,13 +1,14 @@
-//! Moving and following code, and detours.
+//! Moving and following code, detours, and what is seen before one.
 
 use crate::c_tests::compare::{answers, are, are_offsets, gave, wrote};
-use crate::c_tests::empty::{NO_BLOCKS, NO_DETOUR, NO_ENTRY, NO_MOVE, NO_PLACE};
+use crate::c_tests::empty::{NO_BLOCKS, NO_DETOUR, NO_ENTRY, NO_MOVE, NO_PLACE, NO_VIEW};
 use c_calls::blocks::move_blocks;
-use c_calls::flat::{FlatBlock, FlatDetour, FlatMove, FlatMoved, FlatPlace};
+use c_calls::flat::{FlatBlock, FlatDetour, FlatMove, FlatMoved, FlatPlace, FlatView};
 use c_calls::flow::flow;
 use c_calls::flow_from::flow_from;
 use c_calls::hooks::make_detour;
 use c_calls::moving::{move_code, move_outside};
+use c_calls::sight::look;
 use std::process::Abort;
 
 /// That a moving has so many instructions and bytes, and where the code ends and the slots begin.
@@ -142,6 +143,40 @@ fn a_detour_is_made(rt: HostRuntime) {
     wrote(&rt, "the patch", answer, &patch, 0, want);
     let want = b"\x48\x83\xec\x18\x31\xc0\xe9\xfb\xdf\xff\xff\xaa";
     wrote(&rt, "the trampoline", answer, &trampoline, 0, want);
+}
+
+/// `jmp rax`, three times `nop`, and `jmp` to the start.
+const UNSEEN: &[u8] = b"\xff\xe0\x90\x90\x90\xeb\xf9";
+
+/// That sight ends by the indirect jump at the start, and that the last jump is a suspect.
+fn is_the_view(rt: &impl Abort, view: &FlatView) {
+    let found = [view.sight as u64, view.sight_at];
+    are(rt, "sight", &found, &[2, 0]);
+    let found = [view.is_entered as u64, view.entered_from, view.entered_target];
+    are(rt, "not entered", &found, &[0, 0, 0]);
+    let found = [view.has_inside as u64, view.inside];
+    are(rt, "no entry within", &found, &[0, 0]);
+    let found = [view.has_suspect as u64, view.suspect_from, view.suspect_target];
+    are(rt, "the suspect", &found, &[1, 5, 0]);
+}
+
+// The first five bytes are overwritten, and the start is closed.
+#[test]
+fn a_function_is_seen(rt: HostRuntime) {
+    let mut view = NO_VIEW;
+    let answer = look(
+        rt.alloc(),
+        64,
+        0x1000,
+        UNSEEN,
+        &[],
+        5,
+        &[0],
+        1,
+        &mut view,
+    );
+    answers(&rt, "the call", answer, 0);
+    is_the_view(&rt, &view);
 }
 
 /// 1000: jne 1100; ret. 1100: jmp 1006.
