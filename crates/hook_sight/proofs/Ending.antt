@@ -31,6 +31,10 @@ is_true e = search rules
 pub from_true : {b : Bool} → IsTrue b → b ≡ true
 from_true h = search rules
 
+-- a test that is false is no fact
+pub not_true : {b : Bool} → b ≡ false → IsTrue b → ⊥
+not_true e h = false≢true (sym e ∙ from_true h)
+
 jump_is : (f : Flow) → is_indirect_jump f ≡ true → f ≡ IndirectBranch
 unfolding is_indirect_jump
 jump_is IndirectBranch h = refl
@@ -76,7 +80,7 @@ module _ (one : OneReadingFacts) (code : CodeBytes) (p : ℕ) (exits : Exits) (a
       where
         above : (exits.next ≡ 0 → ⊥) → 0 < exits.next
         above ne = elim (cases_lt 0 exits.next) [ inl l ↦ l | inr g ↦ absurd (ne (omega (arith, g))) ]
-    by_tests false false none j o n = followed j (λ on. absurd (false≢true (sym o ∙ from_true on)))
+    by_tests false false none j o n = followed j (λ on. absurd (not_true o on))
 
     -- at an instruction
     read_end : IsEndAt code p (end_by_flow (flow_of d.instr.code.0) exits.next)

@@ -49,7 +49,10 @@ fn suspect_from(
     requires cursor { IsCursor starts.now next p }
     ensures { IsLeast (IsSuspect (Contains starts.now) (code_bytes bits ip code.now) (part_of taken moved.now start) p) result }
 {
-    if p < taken || is_at(starts, next, p) {
+    if p < taken {
+        return None;
+    }
+    if is_at(starts, next, p) {
         return None;
     }
     passage_from(bits, ip, code, taken, moved, start, p)

@@ -1,4 +1,4 @@
-use Rattle.std.proofs.Common.{◌≡◌, length, arith, sym, subst}
+use Rattle.std.proofs.Common.{◌≡◌, ◌+◌, length, arith, sym, subst}
 use Rattle.hook_sight.specs.Entries.{IsLeast}
 use Rattle.hook_sight.proofs.Entering.{InsideBefore, inside_none, inside_more, inside_all}
 use Rattle.hook_sight.proofs.passages.first_inside.Goals as goal
@@ -7,7 +7,9 @@ pub places-init : goal.places-init
 places-init c = inside_none c.args.entries.now c.args.taken c.args.count
 
 pub places-preserved : goal.places-preserved
-places-preserved c = ?
+places-preserved c =
+    subst (IsLeast (InsideBefore c.args.entries.now c.args.taken c.args.count (c.places.k + 1))) (sym c.lesser.ensures)
+    (inside_more c.args.entries.now c.args.taken c.args.count c.places.k c.places.first c.inside_at.result c.places.invariant c.inside_at.ensures)
 
 pub returns : goal.returns
 returns c =

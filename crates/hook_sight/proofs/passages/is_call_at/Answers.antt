@@ -1,13 +1,23 @@
-use Rattle.std.proofs.Common.{Err, rules}
+use Rattle.std.proofs.Common.{Err, ap, ◌∙◌, rules}
 use Rattle.flow_graph.specs.Control.{code_bytes}
 use Rattle.row_relation.specs.Spells.{Read}
 use Rattle.decoder.specs.Answer.{reading_of}
-use Rattle.operand_info.specs.ByCode.{flow_of}
+use Rattle.hook_sight.specs.Entries.{is_call}
 use Rattle.hook_sight.proofs.Entering.{read_there, call_there, no_call_there}
 use Rattle.hook_sight.proofs.passages.is_call_at.Goals as goal
 
 pub returns-in-Ok : goal.returns-in-Ok
-returns-in-Ok c = ?
+returns-in-Ok c =
+    let code = code_bytes c.args.bits c.args.ip c.args.code.now in
+    call_there c.bytes_have_one_reading.ensures code c.args.p c.in-Ok.decoded
+    (read_there code c.args.p (Read c.in-Ok.decoded) c.in-Ok.ensures.reading) c.is_call.result
+    (c.is_call.ensures ∙ ap is_call c.flow_of.ensures)
 
 pub returns-in-Err : goal.returns-in-Err
-returns-in-Err c = ?
+returns-in-Err c =
+    let code = code_bytes c.args.bits c.args.ip c.args.code.now in (
+      λ h. absurd h,
+      λ call. absurd
+          (no_call_there c.bytes_have_one_reading.ensures code c.args.p c.in-Err.field-0
+          (read_there code c.args.p (reading_of (Err c.in-Err.field-0)) c.in-Err.ensures.reading) call),
+    )
