@@ -1230,6 +1230,30 @@ static void check_code(void)
         free(kinds);
         free(much);
     }
+
+    /* jmp rax; three nops; jmp 0: five bytes are overwritten, and an entry is at the last nop */
+    {
+        static const uint8_t function[] = {0xff, 0xe0, 0x90, 0x90, 0x90, 0xeb, 0xf9};
+        static const uint32_t moved[] = {0}, entries[] = {4, 7};
+        feddurzai_view *view = malloc(sizeof *view);
+        memset(view, 0xaa, sizeof *view);
+        CHECK(feddurzai_look(17, 0, function, 7, NULL, 0, 5, moved, 1, 9, view), FEDDURZAI_BAD_MODE);
+        CHECK(feddurzai_look(64, 0, function, 7, NULL, 0, 5, moved, 1, 2, view), FEDDURZAI_BAD_START);
+        CHECK(feddurzai_look(64, 0, large, FEDDURZAI_MAX_CODE + 1, NULL, 0, 5, moved, 1, 1, view), FEDDURZAI_TOO_LARGE);
+        CHECK(is_untouched(view, sizeof *view), 1);
+        CHECK(feddurzai_look(64, 0, function, 7, NULL, 0, 5, moved, 1, FEDDURZAI_START_OPEN, view), 0);
+        CHECK(view->sight == FEDDURZAI_SIGHT_INDIRECT_JUMP && view->sight_at == 0, 1);
+        CHECK(view->is_entered == 0 && view->has_inside == 0 && view->has_suspect == 0, 1);
+        CHECK(feddurzai_look(64, 0, function, 7, NULL, 0, 5, moved, 1, FEDDURZAI_START_CLOSED, view), 0);
+        CHECK(view->has_suspect == 1 && view->suspect_from == 5 && view->suspect_target == 0, 1);
+        CHECK(feddurzai_look(64, 0, function, 7, entries, 2, 5, moved, 1, FEDDURZAI_START_CLOSED, view), 0);
+        CHECK(view->has_inside == 1 && view->inside == 4, 1);
+        CHECK(view->is_entered == 1 && view->entered_from == 5 && view->entered_target == 0, 1);
+        CHECK(view->has_suspect, 0);
+        CHECK(feddurzai_look(64, 0, NULL, 0, NULL, 0, 0, NULL, 0, FEDDURZAI_START_OPEN, view), 0);
+        CHECK(view->sight, FEDDURZAI_SIGHT_WHOLE);
+        free(view);
+    }
     free(out);
     free(map);
     free(report);

@@ -156,6 +156,7 @@ static void works(void)
     feddurzai_live live[4];
     feddurzai_step_report stepped;
     feddurzai_detour_report detour;
+    feddurzai_view view;
     feddurzai_byte_offsets parts;
     feddurzai_about about;
     feddurzai_touched touched;
@@ -174,6 +175,7 @@ static void works(void)
     CALL(feddurzai_flow_from, 64, 0x401000, P(code), SIZE, P(entries), 2, P(starts), 128, P(leaders), 128, P(kinds), 128);
     CALL(feddurzai_detour, 64, 0x401000, P(code), SIZE, 0x7fff00000000, 0x500000, FEDDURZAI_START_MOVED, P(patch), sizeof patch,
         P(out), sizeof out, P(&detour));
+    CALL(feddurzai_look, 64, 0x401000, P(code), SIZE, P(entries), 2, 8, P(entries), 1, FEDDURZAI_START_CLOSED, P(&view));
     CALL(feddurzai_region_reserve, P(&region), P(live), 4, FEDDURZAI_MAX_STEP, P(&place));
     len = CALL(feddurzai_step, 64, 0x401000, P(code + 19), 5, place, P(out), sizeof out, P(&stepped));
     if (len > 0)

@@ -69,7 +69,9 @@ from ._numbers import (
     RegClass,
     Repeat,
     Segment,
+    Sight,
     Start,
+    StartRule,
     Style,
     Touch,
     UnlistedKind,
@@ -78,6 +80,7 @@ from ._offsets import Offsets, Part, offsets
 from ._operands import Far, Immediate, Memory, Near, Operand, Register, register, registers
 from ._refusal import BlocksReport, DetourReport, InvalidCode, MoveReport, Refusal, StepReport, TooShort
 from ._region import Live, Region
+from ._sight import Passage, View, look
 from ._steps import Step, StepSlot, StepSlots, step, step_len
 from ._info import About, Use
 from ._unlisted import Shape, Unlisted, measure
@@ -120,6 +123,7 @@ __all__ = [
     "Operand",
     "OperandKind",
     "Part",
+    "Passage",
     "Reached",
     "Reason",
     "Reference",
@@ -133,7 +137,9 @@ __all__ = [
     "RowOperand",
     "Segment",
     "Shape",
+    "Sight",
     "Start",
+    "StartRule",
     "Step",
     "StepReport",
     "StepSlot",
@@ -144,6 +150,7 @@ __all__ = [
     "Unlisted",
     "UnlistedKind",
     "Use",
+    "View",
     "assemble",
     "code_of",
     "codes_of",
@@ -157,6 +164,7 @@ __all__ = [
     "iterate",
     "jump",
     "line",
+    "look",
     "measure",
     "move",
     "move_blocks",

@@ -288,6 +288,33 @@ class Start(Named):
     HOOKED = 1
 
 
+class StartRule(Named):
+    """Whether control after the overwritten bytes may go back to the start of the function, for `look`.
+
+    OPEN: it may. CLOSED: only calls may, since a loop to the start would reach the replacement.
+
+    >>> loop = bytes.fromhex("803f00 7405 48ffc7 ebf6 c3")
+    >>> [look(64, 0x1000, loop, 5, [0, 3], start=rule).entered for rule in StartRule]
+    [None, Passage(start=8, target=0)]
+    """
+
+    OPEN = 0
+    CLOSED = 1
+
+
+class Sight(Named):
+    """Why sight of a function ends, for `look`. WHOLE: it does not. docs/hooks.md has the others.
+
+    >>> print(look(64, 0x1000, bytes.fromhex("ffe0 909090"), 5, [0]).sight)
+    Sight.INDIRECT_JUMP
+    """
+
+    WHOLE = 0
+    NOT_READ = 1
+    INDIRECT_JUMP = 2
+    ENDED = 3
+
+
 class DetourForm(Named):
     """The form of the jump of a detour: a near jump, a near jump to a relay, or 14 bytes with the address.
 
