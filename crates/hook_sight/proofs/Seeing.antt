@@ -1,9 +1,11 @@
 -- What holds of the offsets of a list holds of those that control reaches.
-use Rattle.std.proofs.Common.{◌≡◌, ℕ, ◌<◌, List, ◌∷◌, length, get_or, Option, Some, None, Result, sym, subst}
+use Rattle.std.proofs.Common.{◌≡◌, ℕ, zero, suc, ◌<◌, List, [], ◌∷◌, length, get_or, Option, Some, None, Result, arith, refl, sym, subst}
+use Rattle.std.specs.Prelude.{◌↔◌}
 use Rattle.std.specs.List.{All, Contains}
 use Rattle.std.specs.List.Sorted.{IsStrictlyIncreasing}
 use Rattle.std.proofs.lemmas.List.Elements.{All-contains, All-from_get_or, All-get_or}
 use Rattle.flow_graph.specs.Control.{CodeBytes}
+use Rattle.flow_graph.specs.Reached.{Reaches, start as start_one, step as step_one}
 use Rattle.flow_graph.specs.ReachedFrom.{ReachesFrom, start, step}
 use Rattle.flow_graph.specs.Told.{Tells, told_at}
 use Rattle.flow_graph.specs.Graphs.{Graph, IsFlowGraphFrom}
@@ -12,7 +14,7 @@ use Rattle.operand_info.specs.declared.columns.Flow.{Flow}
 use Rattle.hook_sight.specs.declared.answers.Passage.{Passage}
 use Rattle.hook_sight.specs.declared.answers.Sight.{Sight}
 use Rattle.hook_sight.specs.declared.answers.Sight.TheVariants.{Whole, Ends}
-use Rattle.hook_sight.specs.Sight.{IsSight}
+use Rattle.hook_sight.specs.Sight.{IsSeen, IsSight}
 use Rattle.hook_sight.specs.Entries.{TakenPart, Enters, IsFirstPassage}
 use Rattle.hook_sight.specs.Suspects.{IsSuspect, IsSuspected}
 
@@ -81,3 +83,26 @@ module _ (code : CodeBytes) (firsts : List ℕ) (graph : Graph) (is : IsFlowGrap
       subst (λ (xs : List ℕ). Tells code (get_or xs k 0) (told_at flows k)) (sym same)
       (subst (λ (fs : List (Result Flow DecodeError)). Tells code (get_or graph.starts k 0) (told_at fs k)) (sym same_flows)
       (is.told k (subst (λ (xs : List ℕ). k < length xs) same l)))
+
+-- ---- without entries
+
+has_first : Contains (0 ∷ []) 0
+has_first = (0, omega arith, refl)
+
+only_first : (q : ℕ) → Contains (0 ∷ []) q → q ≡ 0
+only_first q (zero, l, e) = sym e
+only_first q (suc k, l, e) = absurd (omega arith)
+
+seen_to : (code : CodeBytes) (p : ℕ) → IsSeen code [] p → Reaches code p
+seen_to code _ (start q has inside) =
+    let e = only_first q has in
+    subst (Reaches code) (sym e) (start_one (subst (λ (x : ℕ). x < length code.bytes) e inside))
+seen_to code _ (step p q seen goes) = step_one p q (seen_to code p seen) goes
+
+to_seen : (code : CodeBytes) (p : ℕ) → Reaches code p → IsSeen code [] p
+to_seen code _ (start_one inside) = start 0 has_first inside
+to_seen code _ (step_one p q reached goes) = step p q (to_seen code p reached) goes
+
+-- **without entries, what is seen is what control reaches from the first byte**
+pub seen_alone : (code : CodeBytes) (p : ℕ) → IsSeen code [] p ↔ Reaches code p
+seen_alone code p = (seen_to code p, to_seen code p)

@@ -1,7 +1,8 @@
 //! What holds of all that is seen.
 
-ghost use Rattle.std.specs.Prelude.{◌≡◌, ◌≤◌, ℕ, List, length, None};
+ghost use Rattle.std.specs.Prelude.{◌≡◌, ◌≤◌, ◌↔◌, ℕ, List, [], length, None};
 ghost use Rattle.flow_graph.specs.Control.{CodeBytes};
+ghost use Rattle.flow_graph.specs.Reached.{Reaches};
 ghost use Rattle.hook_sight.specs.declared.answers.Sight.TheVariants.{Whole};
 ghost use Rattle.hook_sight.specs.declared.answers.SightEnd.{SightEnd};
 ghost use Rattle.hook_sight.specs.declared.answers.View.{View};
@@ -41,3 +42,8 @@ pub fn what_is_not_entered_is_kept_out()
 {
     bytes_have_one_reading();
 }
+
+/// Without entries, the reached offsets are those that control reaches from the first byte.
+pub fn without_entries_the_first_byte_is_followed()
+    ensures { (code : CodeBytes) (p : ℕ) → IsSeen code [] p ↔ Reaches code p }
+{}
