@@ -18,7 +18,7 @@ use Rattle.hook_sight.specs.Entries.{TakenPart, Enters, IsFirstPassage, IsCallAt
 use Rattle.hook_sight.specs.Keeping.{IsClosed, IsKeptOut}
 use Rattle.hook_sight.proofs.OneReading.{same_reading, same_instr}
 use Rattle.hook_sight.proofs.Entering.{call_there}
-use Rattle.hook_sight.proofs.Ending.{is_true, from_true}
+use Rattle.hook_sight.proofs.Ending.{is_true, not_true}
 use Rattle.hook_sight.proofs.Places.{at_place, place_of}
 
 -- ---- what ends is not followed
@@ -114,8 +114,8 @@ module _ (one : OneReadingFacts) (code : CodeBytes) (entries : List ℕ) where
     by_reading p (Read d) reads leads not_none =
         let there = call_there one code p d reads (is_call (flow_of d.instr.code.0)) refl in
         elim (cases_Bool (is_call (flow_of d.instr.code.0))) [
-          | inl yes ↦ there.0 (is_true yes)
-          | inr no ↦ absurd (not_none (λ c. false≢true (sym no ∙ from_true (there.1 c))))
+          | inl call ↦ there.0 (is_true call)
+          | inr other ↦ absurd (not_none (λ c. not_true other (there.1 c)))
         ]
     by_reading p TooShort reads leads not_none = absurd leads
     by_reading p Invalid reads leads not_none = absurd leads

@@ -86,10 +86,13 @@ module _ (code : CodeBytes) (firsts : List ℕ) (graph : Graph) (is : IsFlowGrap
 
 -- ---- without entries
 
-has_first : Contains (0 ∷ []) 0
+abbrev first_alone : List ℕ
+first_alone = 0 ∷ []
+
+has_first : Contains first_alone 0
 has_first = (0, omega arith, refl)
 
-only_first : (q : ℕ) → Contains (0 ∷ []) q → q ≡ 0
+only_first : (q : ℕ) → Contains first_alone q → q ≡ 0
 only_first q (zero, l, e) = sym e
 only_first q (suc k, l, e) = absurd (omega arith)
 

@@ -8,7 +8,7 @@ places-init c = inside_none c.args.entries.now c.args.taken c.args.count
 
 pub places-preserved : goal.places-preserved
 places-preserved c =
-    subst (IsLeast (InsideBefore c.args.entries.now c.args.taken c.args.count (c.places.k + 1))) (sym c.lesser.ensures)
+    subst (IsLeast (InsideBefore c.args.entries.now c.args.taken c.args.count (c.places.k + 1))) (sym c.lesser-first.ensures)
     (inside_more c.args.entries.now c.args.taken c.args.count c.places.k c.places.first c.inside_at.result c.places.invariant c.inside_at.ensures)
 
 pub returns : goal.returns

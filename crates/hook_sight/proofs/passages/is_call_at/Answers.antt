@@ -1,4 +1,5 @@
-use Rattle.std.proofs.Common.{Err, ap, ◌∙◌, rules}
+use Rattle.std.proofs.Common.{Err, ap, ◌∙◌}
+use Rattle.std.proofs.lemmas.Bool.{false≢true}
 use Rattle.flow_graph.specs.Control.{code_bytes}
 use Rattle.row_relation.specs.Spells.{Read}
 use Rattle.decoder.specs.Answer.{reading_of}
@@ -16,7 +17,7 @@ returns-in-Ok c =
 pub returns-in-Err : goal.returns-in-Err
 returns-in-Err c =
     let code = code_bytes c.args.bits c.args.ip c.args.code.now in (
-      λ h. absurd h,
+      λ h. absurd (false≢true h),
       λ call. absurd
           (no_call_there c.bytes_have_one_reading.ensures code c.args.p c.in-Err.field-0
           (read_there code c.args.p (reading_of (Err c.in-Err.field-0)) c.in-Err.ensures.reading) call),
