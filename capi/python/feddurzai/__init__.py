@@ -78,7 +78,7 @@ from ._offsets import Offsets, Part, offsets
 from ._operands import Far, Immediate, Memory, Near, Operand, Register, register, registers
 from ._refusal import BlocksReport, DetourReport, InvalidCode, MoveReport, Refusal, StepReport, TooShort
 from ._region import Live, Region
-from ._steps import Step, StepSlot, StepSlots, step, step_len
+from ._steps import Step, StepCall, StepSlot, StepSlots, step, step_call, step_len
 from ._info import About, Use
 from ._unlisted import Shape, Unlisted, measure
 
@@ -136,6 +136,7 @@ __all__ = [
     "Start",
     "Step",
     "StepReport",
+    "StepCall",
     "StepSlot",
     "StepSlots",
     "Style",
@@ -170,6 +171,7 @@ __all__ = [
     "row_operand",
     "segment_text",
     "step",
+    "step_call",
     "step_len",
     "text",
     "version",
