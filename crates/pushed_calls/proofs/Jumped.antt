@@ -1,14 +1,14 @@
 -- The jump goes where the CALL goes.
-use Rattle.std.proofs.Common.{◌≡◌, ℕ, ◌+◌, ◌*◌, ◌%◌, ◌^◌, ◌<◌, ◌≤◌, Bool, true, false, ◌==◌, Option, Some, None, refl, subst, arith}
-use Rattle.std.specs.Prelude.{if◌then◌else◌, is_none, ◌&&◌, nat_le}
-use Rattle.std.proofs.lemmas.Bool.{cases_Bool, leb-false, lt-leb}
+use Rattle.std.proofs.Common.{◌≡◌, ℕ, ◌+◌, ◌*◌, ◌%◌, ◌^◌, ◌<◌, ◌≤◌, Bool, true, false, [], ◌∷◌, Option, Some, None, refl, subst, arith}
+use Rattle.std.specs.Prelude.{◌==◌, if◌then◌else◌}
+use Rattle.std.proofs.lemmas.Bool.{leb-false}
 use Rattle.x86_values.specs.declared.Bits.{Bits}
 use Rattle.x86_values.specs.declared.Bits.TheVariants.{B16, B32, B64}
 use Rattle.x86_values.specs.declared.Register.{Register}
 use Rattle.x86_values.specs.declared.Register.TheVariants.{R32, R64, Eip, Rip}
 use Rattle.x86_values.specs.declared.Mem.{Mem}
 use Rattle.x86_values.specs.declared.Operand.{Operand}
-use Rattle.x86_values.specs.declared.Operand.TheVariants.{Reg, Mem as Memory, Near}
+use Rattle.x86_values.specs.declared.Operand.TheVariants.{Absent, Reg, Mem as Memory, Near}
 use Rattle.x86_values.specs.declared.Instr.{Instr}
 use Rattle.x86_values.specs.Wrapping.{width, modulo_width}
 use Rattle.instruction_parts.specs.Sizes.{size_bytes}
@@ -17,11 +17,17 @@ use Rattle.operand_info.specs.Operands.{near_value, ip_value}
 use Rattle.move_goals.specs.declared.branch_forms.branch.Action.TheVariants.{Jump, Call}
 use Rattle.move_goals.specs.BranchForms.Branches.{near_code}
 use Rattle.move_goals.specs.BranchForms.Images.{branch_to}
-use Rattle.pushed_calls.specs.Rows.{call_code}
+use Rattle.pushed_calls.specs.Rows.{call_code, jump_code}
 use Rattle.pushed_calls.specs.Jumps.{is_stack_pointer, register_behind, stack_size, is_below, raised_to, raised, memory_behind, operand_behind, jump_to, direct_jump, indirect_jump, jump_of}
 use Rattle.pushed_calls.specs.Facts.{HasSameTarget, IsRaised, JumpedFacts}
 
 -- ---- a register, or an address
+
+operand-is : (a b : Operand) → Some a ≡ Some b → a ≡ b
+operand-is a b e = cc
+
+jump-is : (a b : Instr) → Some a ≡ Some b → a ≡ b
+jump-is a b e = cc
 
 -- an operand that there may be has the target of another
 abbrev KeepsTarget : Option Operand → Operand → Type 0
@@ -30,8 +36,11 @@ KeepsTarget o op = (new : Operand) → o ≡ Some new → HasSameTarget new op
 no-operand : (op : Operand) → KeepsTarget None op
 no-operand op new e = absurd cc
 
+one-operand : (a op : Operand) → HasSameTarget a op → KeepsTarget (Some a) op
+one-operand a op same new e = subst (λ (o : Operand). HasSameTarget o op) (operand-is a new e) same
+
 same-operand : (op : Operand) → KeepsTarget (Some op) op
-same-operand op new e = let h : op ≡ new = cc in subst (λ (o : Operand). HasSameTarget o op) h (record { near = refl; ip = refl })
+same-operand op = one-operand op op (record { near = refl; ip = refl })
 
 by-test : (t : Bool) (o : Option Operand) (op : Operand) → KeepsTarget o op → KeepsTarget (if t then None else o) op
 by-test true o op keeps = no-operand op
@@ -49,10 +58,8 @@ plain-base (Some _) size e m is disp = absurd cc
 raised-keeps : (bits asize : Bits) (m : Mem) → stack_size m.base ≡ Some asize → KeepsTarget (raised bits asize m) (Memory m)
 unfolding raised
 raised-keeps bits asize m e =
-    by-test (is_below asize m) (Some (Memory (raised_to m (modulo_width asize (m.disp + size_bytes bits))))) (Memory m)
-    (λ new f.
-    let h : Memory (raised_to m (modulo_width asize (m.disp + size_bytes bits))) ≡ new = cc in
-    subst (λ (o : Operand). HasSameTarget o (Memory m)) h (plain-base m.base asize e m refl (modulo_width asize (m.disp + size_bytes bits))))
+    let up : Operand = Memory (raised_to m (modulo_width asize (m.disp + size_bytes bits))) in
+    by-test (is_below asize m) (Some up) (Memory m) (one-operand up (Memory m) (plain-base m.base asize e m refl (modulo_width asize (m.disp + size_bytes bits))))
 
 memory-keeps : (bits : Bits) (m : Mem) (size : Option Bits) → stack_size m.base ≡ size → KeepsTarget (memory_behind bits m size) (Memory m)
 memory-keeps bits m None e = same-operand (Memory m)
@@ -73,20 +80,18 @@ GoesThere o op = (j : Instr) → o ≡ Some j → HasSameTarget (operand_at j 0)
 no-jump : (op : Operand) → GoesThere None op
 no-jump op j e = absurd cc
 
+one-jump : (a : Instr) (op : Operand) → HasSameTarget (operand_at a 0) op → GoesThere (Some a) op
+one-jump a op same j e = subst (λ (i : Instr). HasSameTarget (operand_at i 0) op) (jump-is a j e) same
+
 direct-goes : (bits : Bits) (op : Operand) → GoesThere (direct_jump bits op) op
 unfolding jump_to branch_to
-direct-goes bits (Near t) j e =
-    let h : jump_to bits t ≡ j = cc in subst (λ (i : Instr). HasSameTarget (operand_at i 0) (Near t)) h (record { near = refl; ip = refl })
-direct-goes bits op j e = absurd cc
+direct-goes bits (Near t) = one-jump (jump_to bits t) (Near t) (record { near = refl; ip = refl })
+direct-goes bits op = no-jump op
 
 indirect-goes : (bits : Bits) (i : Instr) (o : Option Operand) (op : Operand) → KeepsTarget o op → GoesThere (indirect_jump bits i o) op
-indirect-goes bits i None op keeps j e = absurd cc
-indirect-goes bits i (Some new) op keeps j e =
-    let there : GoesThere (indirect_jump bits i (Some new)) new =
-    λ k f. subst (λ (x : Instr). HasSameTarget (operand_at x 0) new) (let h = f in cc) (record { near = refl; ip = refl }) in
-    let a = there j e in
-    let b = keeps new refl in
-    record { near = cc; ip = cc }
+indirect-goes bits i None op keeps = no-jump op
+indirect-goes bits i (Some new) op keeps =
+    one-jump (record i { code = record { 0 = jump_code bits }; ops = new ∷ Absent ∷ Absent ∷ Absent ∷ [] }) op (keeps new refl)
 
 goes-by : (t u : Bool) (a b : Option Instr) (op : Operand) → GoesThere a op → GoesThere b op → GoesThere (if t then a else (if u then b else None)) op
 goes-by true u a b op p q = p

@@ -1,6 +1,6 @@
 //! The instructions that push a return address (Intel SDM volume 2, PUSH, MOV).
 
-ghost use Rattle.std.specs.Prelude.{◌≡◌};
+ghost use Rattle.std.specs.Prelude.{◌≡◌, None};
 ghost use Rattle.move_goals.specs.BranchForms.Images.{bare as spec_bare};
 ghost use Rattle.pushed_calls.specs.Pushes as spec;
 ghost use Rattle.pushed_calls.specs.Rows.{push_code as spec_push_code};

@@ -162,7 +162,7 @@ module _ (laws : CallLawsBelow) where
       let first = length-is bits items at moved.layout l 0 (omega arith) none in
       let far = not-far bits items at moved.layout l 0 (omega arith) none in
       let slots : length (slots_of plan moved.layout 0) ≤ 1 =
-      subst (λ (xs : List ℕ). length xs ≤ 1) (sym (slots-of-two bits p q at moved.layout)) (two-goals (is_far_at plan moved.layout 0) (is_far_at plan moved.layout 1) _ _ far) in
+      subst (λ (xs : List ℕ). length xs ≤ 1) (sym (slots-of-two bits p q at moved.layout)) (two-goals (is_far_at plan moved.layout 0) (is_far_at plan moved.layout 1) (goal_address plan moved.layout 0) (goal_address plan moved.layout 1) far) in
       let ends = ends-within plan moved.layout (length (slots_of plan moved.layout 0)) refl slots in
       omega (
         arith,
@@ -188,7 +188,8 @@ module _ (laws : CallLawsBelow) where
       let far1 = not-far bits items at moved.layout l 1 (omega arith) none1 in
       let slots : length (slots_of plan moved.layout 0) ≤ 1 =
       subst (λ (xs : List ℕ). length xs ≤ 1) (sym (slots-of-three bits p q r at moved.layout))
-      (three-goals (is_far_at plan moved.layout 0) (is_far_at plan moved.layout 1) (is_far_at plan moved.layout 2) _ _ _ far far1) in
+      (three-goals (is_far_at plan moved.layout 0) (is_far_at plan moved.layout 1) (is_far_at plan moved.layout 2) (goal_address plan moved.layout 0)
+      (goal_address plan moved.layout 1) (goal_address plan moved.layout 2) far far1) in
       let ends = ends-within plan moved.layout (length (slots_of plan moved.layout 0)) refl slots in
       omega (
         arith,
@@ -260,14 +261,14 @@ module _ (laws : CallLawsBelow) where
         (λ j v. with_jump-begins bits item.ip (return_address bits item) j at m v) moved
 
     -- **the block has at most 43 bytes**
-    pub call-short : (r : Result MovedLists PlanError) → IsOutsideAnswer bits items at (as_moving r) → IfOk (call_answer r) (λ moved. length moved.bytes ≤ 43)
+    pub call-short : (r : Result MovedLists PlanError) → IsOutsideAnswer bits items at (as_moving r) → IfOk (call_answer r) (λ (moved : MovedLists). length moved.bytes ≤ 43)
     call-short (Ok m) h = block-short m h.1
     call-short (Err Memory) h = tt
     call-short (Err (Wraps end)) h = tt
     call-short (Err (TooFar n target)) h = tt
 
     -- **and begins with PUSH**
-    pub call-begins : (r : Result MovedLists PlanError) → IsOutsideAnswer bits items at (as_moving r) → IfOk (call_answer r) (λ moved. BeginsWithPush bits at moved)
+    pub call-begins : (r : Result MovedLists PlanError) → IsOutsideAnswer bits items at (as_moving r) → IfOk (call_answer r) (λ (moved : MovedLists). BeginsWithPush bits at moved)
     call-begins (Ok m) h = block-begins m h.1
     call-begins (Err Memory) h = tt
     call-begins (Err (Wraps end)) h = tt

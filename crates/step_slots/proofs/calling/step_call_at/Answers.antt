@@ -16,13 +16,13 @@ returns-in-Some-clause-answer c =
 pub returns-in-Some-clause-begins : goal.returns-in-Some-clause-begins
 returns-in-Some-clause-begins c =
     let items = items_in c.in-Some.call in
-    subst (λ (r : Result MovedLists CallError). IfOk r (λ moved. BeginsWithPush c.args.bits c.args.place moved)) (sym c.call_answer.ensures)
+    subst (λ (r : Result MovedLists CallError). IfOk r (λ (moved : MovedLists). BeginsWithPush c.args.bits c.args.place moved)) (sym c.call_answer.ensures)
     (call-begins c.calls_below.ensures c.args.bits c.args.item c.args.place items (sym c.in-Some.ensures.value) c.in-Some.ensures.placed c.in-Some.ensures.few
     c.move_call.result c.move_call.ensures)
 
 pub returns-in-Some-clause-short : goal.returns-in-Some-clause-short
 returns-in-Some-clause-short c =
     let items = items_in c.in-Some.call in
-    subst (λ (r : Result MovedLists CallError). IfOk r (λ moved. length moved.bytes ≤ 43)) (sym c.call_answer.ensures)
+    subst (λ (r : Result MovedLists CallError). IfOk r (λ (moved : MovedLists). length moved.bytes ≤ 43)) (sym c.call_answer.ensures)
     (call-short c.calls_below.ensures c.args.bits c.args.item c.args.place items (sym c.in-Some.ensures.value) c.in-Some.ensures.placed c.in-Some.ensures.few
     c.move_call.result c.move_call.ensures)
