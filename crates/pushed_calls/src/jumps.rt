@@ -37,20 +37,8 @@ fn stack_size(base: Option<Register>) -> Option<Bits>
     ensures { result ≡ spec.stack_size base }
 {
     match base {
-        Some(Register::R32(n)) => {
-            if n == 4 {
-                Some(Bits::B32)
-            } else {
-                None
-            }
-        }
-        Some(Register::R64(n)) => {
-            if n == 4 {
-                Some(Bits::B64)
-            } else {
-                None
-            }
-        }
+        Some(Register::R32(n)) => { if n == 4 { Some(Bits::B32) } else { None } }
+        Some(Register::R64(n)) => { if n == 4 { Some(Bits::B64) } else { None } }
         _ => None,
     }
 }
