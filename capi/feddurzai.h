@@ -22,8 +22,8 @@
  *
  * Threads: the library has no global state and takes no locks, so any number of threads may call it at once.
  *
- * Memory: feddurzai_move, feddurzai_move_outside, feddurzai_move_blocks, feddurzai_step, feddurzai_flow,
- * feddurzai_flow_from, feddurzai_detour and feddurzai_look call malloc, realloc and free, and free all that they
+ * Memory: feddurzai_move, feddurzai_move_outside, feddurzai_move_blocks, feddurzai_step, feddurzai_step_call,
+ * feddurzai_flow, feddurzai_flow_from, feddurzai_detour and feddurzai_look call malloc, realloc and free, and free all that they
  * allocate before they return. All other functions allocate nothing and may be called from a signal handler or from a
  * hook of malloc.
  *
@@ -64,8 +64,8 @@ uint32_t feddurzai_version(void);
  * Statuses. A function that returns int32_t returns 0 or more on success and one of these on refusal.
  *
  * After a refusal the function has written nothing, with one exception: feddurzai_move, feddurzai_move_outside,
- * feddurzai_move_blocks, feddurzai_step and feddurzai_detour always write their report, unless they return
- * FEDDURZAI_NULL.
+ * feddurzai_move_blocks, feddurzai_step, feddurzai_step_call and feddurzai_detour always write their report, unless
+ * they return FEDDURZAI_NULL.
  *
  * If several refusals apply, the function returns the first in the order of its comment. FEDDURZAI_NULL precedes all
  * others. Every function that takes a pointer can return it, so the comments do not repeat it.
@@ -1187,7 +1187,7 @@ typedef struct feddurzai_step_report {
  *  - A CALL pushes the address after it in the code, place + done_at, which is place + back_at. The procedure returns
  *    there, and the jump back continues at the right address. Keep the code until then, or replace the pushed address
  *    by old_ip + report->len. Until the debugger replaces it, a procedure that reads its return address reads that of
- *    the code, and so does an unwinder.
+ *    the code, and so does an unwinder. feddurzai_step_call makes code that pushes old_ip + report->len itself.
  *  - SYSCALL pushes nothing. It leaves the address after it, place + done_at, in RCX, and SYSRET returns there. Keep
  *    the code until the system call returns; the program sees the address of the code in RCX, unless the debugger
  *    replaces it by old_ip + report->len.
@@ -1215,6 +1215,40 @@ int32_t feddurzai_step(uint32_t bits, uint64_t old_ip, const uint8_t *bytes, siz
  * FEDDURZAI_BAD_MODE, _INVALID, _TOO_SHORT.
  */
 int32_t feddurzai_step_len(uint32_t bits, uint64_t old_ip, const uint8_t *bytes, size_t len, uint64_t base);
+
+/*
+ * Makes code as feddurzai_step does, for a near CALL: the called code and an unwinder see the CALL's own return address.
+ * The arguments are those of feddurzai_step; FEDDURZAI_MAX_STEP bytes are always enough.
+ *
+ * The code is `push` of the address after the CALL (old_ip + report->len, modulo 2^bits), in 64-bit mode followed by
+ * `mov dword ptr [rsp+4]` of its high 32 bits, and a jump to the target of the CALL. It changes no flag and no register
+ * but the stack pointer. There is no jump back, since the procedure returns to the program: back_at is 0, and the code
+ * may be freed as soon as control has left it.
+ *
+ * done_at is the length of the PUSH. Before it nothing has happened: report old_ip, and resume there or at `place`. From
+ * done_at on the CALL has begun: step on until control is outside the code, and never resume at old_ip. If the jump
+ * faults there, because it cannot read its operand or its target, the stack already has the return address; CALL would
+ * have left the stack as it was. To report the fault as one of the CALL, add the size of the address, bits / 8, to the
+ * stack pointer and report old_ip.
+ *
+ * The jump reads its operand after the push. An operand at ESP or RSP is raised by bits / 8, so that it names the same
+ * memory; one at RIP keeps its target. These calls have no such code, and are refused with FEDDURZAI_BAD_FORM:
+ *  - a far CALL, a CALL with the prefix 66 outside 64-bit mode, and every instruction that is no CALL;
+ *  - a CALL through SP, ESP or RSP itself, or through memory below it (call [rsp-8]), which the push changes;
+ *  - a CALL whose displacement does not hold what it is raised to (call [rsp+0x7fffffff]).
+ * Use feddurzai_step for them. Two more things differ from CALL: with shadow stacks (CET) the RET to a pushed address
+ * faults, and in 16-bit code an operand at ESP is raised as if SP does not wrap.
+ *
+ * Returns the number of bytes, or FEDDURZAI_BAD_MODE, _INVALID, _TOO_SHORT, _BAD_FORM, _WRAPS, _TOO_FAR, _NO_ROOM.
+ * _NO_MEMORY may replace any of those after _BAD_FORM. The call allocates memory.
+ *
+ *     // call 0x2000 at 0x1000, to be stepped at 0x1800
+ *     len = feddurzai_step_call(64, 0x1000, (const uint8_t *)"\xe8\xfb\x0f\x00\x00", 5, 0x1800, out, sizeof out, &report);
+ *     // len is 18: 68 05 10 00 00, push 0x1005; c7 44 24 04 00 00 00 00, mov dword ptr [rsp+4], 0; and e9 ee 07 00 00,
+ *     // jmp 0x2000; done_at is 5 and back_at is 0
+ */
+int32_t feddurzai_step_call(uint32_t bits, uint64_t old_ip, const uint8_t *bytes, size_t len, uint64_t place,
+    uint8_t *out, size_t room, feddurzai_step_report *report);
 
 /* ---- control flow ------------------------------------------------------------------------------------------ */
 
@@ -1643,6 +1677,14 @@ static inline int32_t feddurzai_checked_step_len(uint32_t bits, uint64_t old_ip,
     return feddurzai_step_len(bits, old_ip, bytes, len, base);
 }
 
+static inline int32_t feddurzai_checked_step_call(uint32_t bits, uint64_t old_ip, const uint8_t *bytes, size_t len,
+    uint64_t place, uint8_t *out, size_t room, feddurzai_step_report *report)
+{
+    if (feddurzai_is_null(bytes, len) || feddurzai_is_null(out, room) || report == NULL)
+        return FEDDURZAI_NULL;
+    return feddurzai_step_call(bits, old_ip, bytes, len, place, out, room, report);
+}
+
 static inline int32_t feddurzai_checked_flow(uint32_t bits, uint64_t base, const uint8_t *bytes, size_t len,
     uint32_t *starts, size_t room, uint32_t *leaders, size_t leaders_room)
 {
@@ -1714,6 +1756,7 @@ static inline int32_t feddurzai_checked_look(uint32_t bits, uint64_t ip, const u
 #define feddurzai_region_fill feddurzai_checked_region_fill
 #define feddurzai_step feddurzai_checked_step
 #define feddurzai_step_len feddurzai_checked_step_len
+#define feddurzai_step_call feddurzai_checked_step_call
 #define feddurzai_flow feddurzai_checked_flow
 #define feddurzai_flow_from feddurzai_checked_flow_from
 #define feddurzai_detour feddurzai_checked_detour

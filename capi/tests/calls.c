@@ -905,6 +905,72 @@ static void check_steps(void)
     CHECK(memcmp(image + 16, "\xe8\xeb\x1f\xb0\xff\xe9\xeb\x0f\xb0\xff\xcc\xcc", 12), 0);
 }
 
+/* what a stepped CALL at an address is at a place that pushes its own return address: the bytes, and those of its push */
+static void check_step_call(uint32_t bits, uint64_t old_ip, const char *bytes, size_t len, uint64_t place, const char *want, size_t want_len,
+    uint64_t done_at)
+{
+    uint8_t *out = malloc(FEDDURZAI_MAX_STEP + 1);
+    feddurzai_step_report *r = malloc(sizeof *r);
+    memset(out, 0xaa, FEDDURZAI_MAX_STEP + 1);
+    CHECK(feddurzai_step_call(bits, old_ip, (const uint8_t *)bytes, len, place, out, FEDDURZAI_MAX_STEP, r), (int)want_len);
+    CHECK(memcmp(out, want, want_len), 0);
+    CHECK(is_untouched(out + want_len, FEDDURZAI_MAX_STEP + 1 - want_len), 1);
+    CHECK(r->bytes, want_len);
+    CHECK(r->done_at, done_at);
+    CHECK(r->back_at, 0);
+    CHECK(r->len, len);
+    CHECK(r->address, 0);
+    free(out);
+    free(r);
+}
+
+/* an instruction that has no such code, or is refused for another cause */
+static void check_no_step_call(uint32_t bits, const char *bytes, size_t len, uint64_t place, int32_t want, uint64_t address)
+{
+    feddurzai_step_report r;
+    uint8_t out[FEDDURZAI_MAX_STEP];
+    memset(out, 0xaa, sizeof out);
+    CHECK(feddurzai_step_call(bits, 0x1000, (const uint8_t *)bytes, len, place, out, sizeof out, &r), want);
+    CHECK(r.bytes == 0 && r.back_at == 0 && r.len == 0 && r.done_at == 0 && r.address == address, 1);
+    CHECK(is_untouched(out, sizeof out), 1);
+}
+
+/* calls elsewhere that push their own return addresses, with their bytes by hand */
+static void check_step_calls(void)
+{
+    /* call 0x401015: push 0x401005, mov dword [rsp+4], 0, and jmp 0x401015 from 0x500012 */
+    check_step_call(64, 0x401000, "\xe8\x10\0\0\0", 5, 0x500000, "\x68\x05\x10\x40\0\xc7\x44\x24\x04\0\0\0\0\xe9\x03\x10\xf0\xff", 18, 5);
+    /* at an address whose low half is negative as a number of 32 bits: push extends its sign, and mov writes the high half */
+    check_step_call(64, 0x7fff80000000, "\xff\xd0", 2, 0x500000, "\x68\x02\0\0\x80\xc7\x44\x24\x04\xff\x7f\0\0\xff\xe0", 15, 5);
+    /* call [rsp+8]: jmp [rsp+16]; call [rsp]: jmp [rsp+8]; call [rsp+0x78]: jmp [rsp+0x80], of 32 bits */
+    check_step_call(64, 0x1000, "\xff\x54\x24\x08", 4, 0x2000, "\x68\x04\x10\0\0\xc7\x44\x24\x04\0\0\0\0\xff\x64\x24\x10", 17, 5);
+    check_step_call(64, 0x1000, "\xff\x14\x24", 3, 0x2000, "\x68\x03\x10\0\0\xc7\x44\x24\x04\0\0\0\0\xff\x64\x24\x08", 17, 5);
+    check_step_call(64, 0x1000, "\xff\x54\x24\x78", 4, 0x2000,
+        "\x68\x04\x10\0\0\xc7\x44\x24\x04\0\0\0\0\xff\xa4\x24\x80\0\0\0", 20, 5);
+    /* call [rip+0x10], at 0x1016: jmp [rip-0xffd] from 0x2013 */
+    check_step_call(64, 0x1000, "\xff\x15\x10\0\0\0", 6, 0x2000,
+        "\x68\x06\x10\0\0\xc7\x44\x24\x04\0\0\0\0\xff\x25\x03\xf0\xff\xff", 19, 5);
+    /* call 0x2000 out of reach: jmp through its address, at a multiple of 8 */
+    check_step_call(64, 0x1000, "\xe8\xfb\x0f\0\0", 5, 0x7f0000000000,
+        "\x68\x05\x10\0\0\xc7\x44\x24\x04\0\0\0\0\xff\x25\x05\0\0\0\xcc\xcc\xcc\xcc\xcc\0\x20\0\0\0\0\0\0", 32, 5);
+    /* 32 and 16-bit code: one push */
+    check_step_call(32, 0x1000, "\xe8\xfb\x0f\0\0", 5, 0x1800, "\x68\x05\x10\0\0\xe9\xf6\x07\0\0", 10, 5);
+    check_step_call(32, 0x1000, "\xff\x54\x24\x04", 4, 0x1800, "\x68\x04\x10\0\0\xff\x64\x24\x08", 9, 5);
+    check_step_call(16, 0x1000, "\xe8\xfd\x0f", 3, 0x1800, "\x68\x03\x10\xe9\xfa\x07", 6, 3);
+
+    check_no_step_call(64, "\x90", 1, 0x2000, FEDDURZAI_BAD_FORM, 0);                               /* nop */
+    check_no_step_call(64, "\xff\xd4", 2, 0x2000, FEDDURZAI_BAD_FORM, 0);                           /* call rsp */
+    check_no_step_call(64, "\xff\x54\x24\xf8", 4, 0x2000, FEDDURZAI_BAD_FORM, 0);                   /* call [rsp-8] */
+    check_no_step_call(64, "\xff\x94\x24\xf8\xff\xff\x7f", 7, 0x2000, FEDDURZAI_BAD_FORM, 0);       /* call [rsp+0x7ffffff8] */
+    check_no_step_call(64, "\xff\x18", 2, 0x2000, FEDDURZAI_BAD_FORM, 0);                           /* call far [rax] */
+    check_no_step_call(32, "\x66\xff\xd0", 3, 0x2000, FEDDURZAI_BAD_FORM, 0);                       /* call ax */
+    check_no_step_call(17, "\xff\xd0", 2, 0x2000, FEDDURZAI_BAD_MODE, 0);
+    check_no_step_call(64, "\x06", 1, 0x2000, FEDDURZAI_INVALID, 0);
+    check_no_step_call(64, "\xe8", 1, 0x2000, FEDDURZAI_TOO_SHORT, 0);
+    check_no_step_call(16, "\xff\xd0", 2, 0xfffc, FEDDURZAI_WRAPS, 0x10001);
+    check_no_step_call(64, "\xff\x15\0\0\0\0", 6, 0x7f0000000000, FEDDURZAI_TOO_FAR, 0x1006);
+}
+
 /* each constant is the code of the row that its name says, by the library's own search and notation */
 static void check_codes(void)
 {
@@ -1368,6 +1434,7 @@ int main(void)
     check_blocks();
     check_region();
     check_steps();
+    check_step_calls();
     check_codes();
     check_refusals();
     check_code();

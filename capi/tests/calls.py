@@ -279,6 +279,17 @@ def stepped_elsewhere():
     refused(f.Reason.INVALID, f.step_len, 64, 0, b"\x06", 0, kind=f.InvalidCode)
     refused(f.Reason.TOO_SHORT, f.step_len, 64, 0, b"\xe8", 0, kind=f.TooShort)
 
+    # a call that pushes its own return address: push, mov of the high half, jmp
+    for given in ((0x1000, call), (0xFFF, b"\x90" + call, 1)):
+        made = f.step_call(64, given[0], given[1], 0x1800, *given[2:])
+        check(made, f.StepCall(code("6805100000c744240400000000e9ee070000"), 5, 5))
+    check(f.step_call(16, 0x1000, code("e8fd0f"), 0x1800), f.StepCall(code("680310e9fa07"), 3, 3))
+    check(f.step_call(64, 0x1000, code("ff142424"), 0x2000).code, code("6803100000c744240400000000ff642408"))
+    refused(f.Reason.BAD_FORM, f.step_call, 64, 0, b"\x90", 0)
+    refused(f.Reason.BAD_FORM, f.step_call, 64, 0, code("ffd4"), 0)
+    refused(f.Reason.BAD_MODE, f.step_call, 17, 0, call, 0)
+    refused(f.Reason.TOO_SHORT, f.step_call, 64, 0, b"\xe8", 0, kind=f.TooShort)
+
     # slots: 16 bytes for a push, 32 for a call; what is finished is free again
     slots = f.StepSlots(64, 0x10000, 64, 2)
     check((slots.step(0x1000, b"\x50"), slots.step(0x10FFF, b"\x90" + call, 1)), (0x10000, 0x10010))
@@ -470,6 +481,8 @@ def values_are_looked_at_first():
         (f.step, (64, 0, b"\x90", 1 << 64)),
         (f.step, (64, 0, b"\x90", 0, 2)),
         (f.step_len, (64, 0, b"\x90", -1)),
+        (f.step_call, (64, -1, b"\xff\xd0", 0)),
+        (f.step_call, (64, 0, b"\xff\xd0", 1 << 64)),
         (f.StepSlots, (64, -1, 64)),
         (f.detour, (64, 0, b"\x90", -1, 0)),
         (f.detour, (64, 0, b"\x90", 0, 1 << 64)),

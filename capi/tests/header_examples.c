@@ -221,6 +221,14 @@ static void stepped(void)
     CHECK_BYTES(out, "\xe2\x02\xeb\x05\xe9\x07\xf0\xff\xff\xe9\xf4\xef\xff\xff");
     CHECK(report.done_at, 2);
     CHECK(report.back_at, 9);
+    // call 0x2000 at 0x1000, to be stepped at 0x1800
+    len = feddurzai_step_call(64, 0x1000, (const uint8_t *)"\xe8\xfb\x0f\x00\x00", 5, 0x1800, out, sizeof out, &report);
+    // len is 18: 68 05 10 00 00, push 0x1005; c7 44 24 04 00 00 00 00, mov dword ptr [rsp+4], 0; and e9 ee 07 00 00,
+    // jmp 0x2000; done_at is 5 and back_at is 0
+    CHECK(len, 18);
+    CHECK_BYTES(out, "\x68\x05\x10\x00\x00\xc7\x44\x24\x04\x00\x00\x00\x00\xe9\xee\x07\x00\x00");
+    CHECK(report.done_at, 5);
+    CHECK(report.back_at, 0);
 }
 
 static void followed(void)

@@ -182,6 +182,10 @@ static void check_nulls(void)
     CHECK(feddurzai_step(64, 0, code, 4, 0x2000, out, sizeof out, NULL), FEDDURZAI_NULL);
     CHECK(feddurzai_step(64, 0, NULL, 0, 0, NULL, 0, NULL), FEDDURZAI_NULL);
     CHECK(feddurzai_step_len(64, 0, NULL, 4, 0), FEDDURZAI_NULL);
+    CHECK(feddurzai_step_call(64, 0, NULL, 4, 0x2000, out, sizeof out, &step), FEDDURZAI_NULL);
+    CHECK(feddurzai_step_call(64, 0, code, 4, 0x2000, NULL, sizeof out, &step), FEDDURZAI_NULL);
+    CHECK(feddurzai_step_call(64, 0, code, 4, 0x2000, out, sizeof out, NULL), FEDDURZAI_NULL);
+    CHECK(feddurzai_step_call(64, 0, NULL, 0, 0, NULL, 0, NULL), FEDDURZAI_NULL);
 
     CHECK(feddurzai_detour(64, 0, NULL, 7, 0x2000, 0x3000, 0, patch, 6, out, sizeof out, &detour), FEDDURZAI_NULL);
     CHECK(feddurzai_detour(64, 0, small, 7, 0x2000, 0x3000, 0, NULL, 6, out, sizeof out, &detour), FEDDURZAI_NULL);
@@ -286,6 +290,10 @@ static void check_empty(void)
     CHECK(step.bytes == 10 && step.back_at == 5 && step.address == 0 && step.len == 5 && step.done_at == 5, 1);
     CHECK(feddurzai_step(64, 0x1000, NULL, 0, 0x2000, NULL, 0, &step), FEDDURZAI_TOO_SHORT);
     CHECK(step.bytes == 0 && step.back_at == 0 && step.address == 0 && step.len == 0 && step.done_at == 0, 1);
+    CHECK(feddurzai_step_call(64, 0x1000, (const uint8_t *)"\xff\xd0", 2, 0x2000, NULL, 0, &step), FEDDURZAI_NO_ROOM);
+    CHECK(step.bytes == 15 && step.back_at == 0 && step.address == 0 && step.len == 2 && step.done_at == 5, 1);
+    CHECK(feddurzai_step_call(64, 0x1000, NULL, 0, 0x2000, NULL, 0, &step), FEDDURZAI_TOO_SHORT);
+    CHECK(step.bytes == 0 && step.back_at == 0 && step.address == 0 && step.len == 0 && step.done_at == 0, 1);
     memset(&step, 0xaa, sizeof step);
     CHECK(feddurzai_step_len(64, 0, NULL, 0, 0), FEDDURZAI_TOO_SHORT);
     CHECK(feddurzai_detour(64, 0x1000, small, 7, 0x2000, 0x3000, 0, NULL, 0, NULL, 0, &detour), FEDDURZAI_NO_ROOM);
@@ -345,6 +353,8 @@ static void check_zeros(void)
     CHECK(feddurzai_step(0, 0, NULL, 0, 0, NULL, 0, &step), FEDDURZAI_BAD_MODE);
     CHECK(step.bytes == 0 && step.back_at == 0 && step.address == 0 && step.len == 0 && step.done_at == 0, 1);
     CHECK(feddurzai_step_len(0, 0, NULL, 0, 0), FEDDURZAI_BAD_MODE);
+    CHECK(feddurzai_step_call(0, 0, NULL, 0, 0, NULL, 0, &step), FEDDURZAI_BAD_MODE);
+    CHECK(step.bytes == 0 && step.back_at == 0 && step.address == 0 && step.len == 0 && step.done_at == 0, 1);
     CHECK(feddurzai_detour(0, 0, NULL, 0, 0, 0, 0, NULL, 0, NULL, 0, &detour), FEDDURZAI_BAD_MODE);
     CHECK(detour.taken == 0 && detour.bytes == 0 && detour.jump_back == 0 && detour.at == 0 && detour.target == 0, 1);
 }

@@ -82,6 +82,7 @@ from ._refusal import BlocksReport, DetourReport, InvalidCode, MoveReport, Refus
 from ._region import Live, Region
 from ._sight import Passage, View, look
 from ._steps import Step, StepSlot, StepSlots, step, step_len
+from ._steps import Step, StepCall, StepSlot, StepSlots, step, step_call, step_len
 from ._info import About, Use
 from ._unlisted import Shape, Unlisted, measure
 
@@ -141,6 +142,7 @@ __all__ = [
     "Start",
     "StartRule",
     "Step",
+    "StepCall",
     "StepReport",
     "StepSlot",
     "StepSlots",
@@ -178,6 +180,7 @@ __all__ = [
     "row_operand",
     "segment_text",
     "step",
+    "step_call",
     "step_len",
     "text",
     "version",

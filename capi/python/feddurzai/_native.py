@@ -103,5 +103,6 @@ region_fill = _call(_short, "region_fill", _at, _at, _size, _u64, _at, _size, _a
 step = _call(_short, "step", _u32, _u64, _at, _size, _u64, _at, _size, _at)
 step_len = _call(_short, "step_len", _u32, _u64, _at, _size, _u64)
 look = _call(_long, "look", _u32, _u64, _at, _size, _at, _size, _u64, _at, _size, _u32, _at)
+step_call = _call(_short, "step_call", _u32, _u64, _at, _size, _u64, _at, _size, _at)
 detour = _call(_long, "detour", _u32, _u64, _at, _size, _u64, _u64, _u32, _at, _size, _at, _size, _at)
 flow_from = _call(_long, "flow_from", _u32, _u64, _at, _size, _at, _size, _at, _size, _at, _size, _at, _size)

@@ -74,6 +74,44 @@ def step_len(bits: int, old_ip: int, code: Buffer, base: int, at: int = 0) -> in
     return taken(_native.step_len(bits, old_ip, window, len(window), _checks.number("base", base)))
 
 
+class StepCall(NamedTuple):
+    """The code that runs a near CALL at another address and pushes the CALL's own return address: its bytes, the length of the CALL, and the
+    length of the PUSH with which it begins.
+
+    >>> step_call(64, 0x1000, b"\\xff\\xd0", 0x2000)
+    StepCall(code=b'h\\x02\\x10\\x00\\x00\\xc7D$\\x04\\x00\\x00\\x00\\x00\\xff\\xe0', len=2, done_at=5)
+    """
+
+    code: bytes
+    len: int
+    done_at: int
+
+
+def step_call(bits: int, old_ip: int, code: Buffer, place: int, at: int = 0) -> StepCall:
+    """Makes the code with which a debugger runs a near CALL at the address `place`, so that the called code and an unwinder see the CALL's own
+    return address: a PUSH of that address, in 64-bit mode a MOV of its high half, and a jump to the target. The arguments are those of `step`.
+
+    There is no jump back, since the procedure returns to the program. Before `done_at` nothing has happened. From there on the CALL has begun:
+    step on until control is outside the code. The jump reads its operand after the push; one at the stack pointer is raised to name the same
+    memory. With shadow stacks (CET) the RET to a pushed address faults.
+
+    Raises as `step` does, and Refusal with BAD_FORM if the instruction is no near CALL of the mode's own operand size, or one through the stack
+    pointer itself or through memory below it.
+
+    >>> made = step_call(64, 0x1000, bytes.fromhex("e8fb0f0000"), 0x1800)
+    >>> made.code.hex(), made.done_at
+    ('6805100000c744240400000000e9ee070000', 5)
+    """
+    window = _checks.front_bytes("code", code, at, _native.MAX_LEN)
+    bits, old_ip = _checks.number("bits", bits, _checks.U32), _checks.number("old_ip", old_ip) + at & _checks.U64
+    out, room = _CodeRoom(), _StepRoom()
+    said = _native.step_call(bits, old_ip, window, len(window), _checks.number("place", place), out, _native.MAX_STEP, room)
+    report = StepReport(*_STEP_REPORT.unpack(room.raw))
+    if said < 0:
+        raise refusal_of(said, report)
+    return StepCall(out.raw[:said], report.len, report.done_at)
+
+
 class StepSlot(NamedTuple):
     """A live slot: the address of its code, the address of its instruction, and the code.
 

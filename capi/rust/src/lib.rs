@@ -113,7 +113,7 @@ pub use operand::{MemoryOperand, OpKind, Operand};
 pub use region::{LiveBlock, Region};
 pub use register::{Register, RegisterClass};
 #[cfg(feature = "alloc")]
-pub use step::{step, step_len, Step, StepSlot, StepSlots};
+pub use step::{step, step_call, step_len, Step, StepCall, StepSlot, StepSlots};
 pub use sys::Text;
 
 #[doc(hidden)]

@@ -72,6 +72,48 @@ pub fn step_len(bitness: u32, old_ip: u64, code: &[u8], base: u64) -> Result<usi
     taken(Library::get()?.step_len(bitness, old_ip, code, base))
 }
 
+/// The code that runs a near CALL at another address, so that the called code sees the CALL's own return address.
+///
+/// ```
+/// use feddurzai::step_call;
+///
+/// // call 0x2000 at 0x1000, to be stepped at 0x1800: push 0x1005; mov dword ptr [rsp+4], 0; jmp 0x2000
+/// let made = step_call(64, 0x1000, b"\xE8\xFB\x0F\x00\x00", 0x1800)?;
+/// assert_eq!(made.code, b"\x68\x05\x10\x00\x00\xC7\x44\x24\x04\x00\x00\x00\x00\xE9\xEE\x07\x00\x00");
+/// assert_eq!((made.done_at, made.len), (5, 5));
+/// # Ok::<(), feddurzai::Error>(())
+/// ```
+#[derive(Clone, Debug, PartialEq, Eq, Hash)]
+#[non_exhaustive]
+pub struct StepCall {
+    /// The code: a PUSH of the return address, in 64-bit mode a MOV of its high half, and the jump.
+    pub code: Vec<u8>,
+    /// The length of the PUSH. From this offset on the CALL has begun: step on until control is outside the code.
+    pub done_at: usize,
+    /// The length of the CALL in bytes.
+    pub len: usize,
+}
+
+/// Makes the code that runs the near CALL at the front of `code` at the address `place`, and pushes the address after the
+/// CALL where it is. There is no jump back, since the procedure returns to the program.
+///
+/// The jump reads its operand after the push: one at the stack pointer is raised to name the same memory. With shadow
+/// stacks (CET) the RET to a pushed address faults.
+///
+/// # Errors
+///
+/// [`Error::BadForm`]: the instruction is no near CALL of the mode's own operand size, or it is one through the stack
+/// pointer itself or through memory below it. Otherwise those of [`step`].
+pub fn step_call(bitness: u32, old_ip: u64, code: &[u8], place: u64) -> Result<StepCall, Error> {
+    let (mut out, mut report) = (vec![0; MAX_STEP], sys::StepReport::default());
+    let status = Library::get()?.step_call(bitness, old_ip, code, place, &mut out, &mut report);
+    if status < 0 {
+        return Err(Error::of(status, Place { address: report.address, ..Place::default() }));
+    }
+    out.truncate(taken(status)?);
+    Ok(StepCall { code: out, done_at: usize::from(report.done_at), len: usize::from(report.len) })
+}
+
 /// A live slot of [`StepSlots`]: the address of its code, the address of its instruction, and the code.
 ///
 /// ```

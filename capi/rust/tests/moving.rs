@@ -1,7 +1,7 @@
 //! Moved code, regions, steps and hooks. The bytes of branches are those of the Intel SDM.
 
 use feddurzai::{
-    move_blocks, move_code, move_code_outside, step, step_len, Block, BlockEncoder, BlockEncoderOptions, BlocksError,
+    move_blocks, move_code, move_code_outside, step, step_call, step_len, Block, BlockEncoder, BlockEncoderOptions, BlocksError,
     Code, Decoder, DecoderOptions, Detour, DetourForm, DetourStart, Error, Instruction, InstructionBlock, MovedForm,
     Region, StepSlots,
 };
@@ -151,6 +151,12 @@ fn steps_run_one_instruction() {
     let far = step(64, 0x1000, b"\x48\x8D\x05\x00\x00\x00\x00", 0x7FFF_0000_0000);
     assert_eq!(far, Err(Error::TooFar { instruction: 0, target: 0x1007 }));
     assert_eq!((step(1, 0, b"\x90", 0), step_len(1, 0, b"\x90", 0)), (Err(Error::BadMode), Err(Error::BadMode)));
+
+    // push 0x1005; mov dword ptr [rsp+4], 0; jmp 0x2000
+    let made = step_call(64, 0x1000, b"\xE8\xFB\x0F\x00\x00", 0x1800).unwrap();
+    assert_eq!(made.code, b"\x68\x05\x10\x00\x00\xC7\x44\x24\x04\x00\x00\x00\x00\xE9\xEE\x07\x00\x00");
+    assert_eq!((made.done_at, made.len), (5, 5));
+    assert_eq!(step_call(64, 0, b"\x90", 0), Err(Error::BadForm));
 
     let mut slots = StepSlots::new(64, 0x10000, 64, 4).unwrap();
     let place = slots.step(0x1000, b"\x50").unwrap();

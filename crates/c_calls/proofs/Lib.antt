@@ -16,6 +16,7 @@ pub mod Widths
 pub mod Failing
 pub mod OneTarget
 pub mod StepAnswers
+pub mod StepCallAnswers
 pub mod BlockPlaces
 pub mod BlockAnswers
 pub mod ShortTexts

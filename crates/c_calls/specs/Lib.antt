@@ -20,6 +20,7 @@ pub mod Blocks
 pub mod Hooks
 pub mod Looking
 pub mod Steps
+pub mod StepCalls
 pub mod Failing
 pub mod Regions
 pub mod RegionSearch

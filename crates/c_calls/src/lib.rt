@@ -36,6 +36,7 @@ mod region_search;
 pub mod row_operands;
 pub mod rows;
 pub mod sight;
+pub mod step_calls;
 pub mod stepping;
 pub mod texts;
 mod unflatten;

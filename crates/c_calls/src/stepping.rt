@@ -36,7 +36,7 @@ pub(crate) enum StepRefusal {
 }
 
 /// Why no instruction is read, by the refusals of all calls.
-fn code_refusal(why: DecodeError) -> Refusal
+pub(crate) fn code_refusal(why: DecodeError) -> Refusal
     ensures { result ≡ spec.code_refusal why }
 {
     match why {
@@ -61,7 +61,7 @@ fn step_refusal(why: StepRefusal) -> Refusal
 }
 
 /// The instruction at the front of some bytes, with its address.
-fn item_in(bits: Bits, ip: u64, bytes: &[u8]) -> Result<Placed, DecodeError>
+pub(crate) fn item_in(bits: Bits, ip: u64, bytes: &[u8]) -> Result<Placed, DecodeError>
     ensures answer { spec.IsItem bits ip bytes.now result }
     ensures placed { IfOk result (λ item. IsPlaced bits item) }
 {
@@ -118,7 +118,7 @@ fn step_code(
 }
 
 /// No numbers.
-const NOTHING: FlatStep = FlatStep {
+pub(crate) const NOTHING: FlatStep = FlatStep {
     bytes: 0,
     back_at: 0,
     address: 0,

@@ -57,6 +57,12 @@ pub use Rattle.step_slots.specs.Running as SlotCommands
 pub use Rattle.step_slots.specs.Standing as StandingSteps
 pub use Rattle.step_slots.specs.Done as DoneSteps
 pub use Rattle.step_slots.specs.Block as StepBlocks
+pub use Rattle.step_slots.specs.Calling as CallSteps
+pub use Rattle.pushed_calls.specs.Items as PushedItems
+pub use Rattle.pushed_calls.specs.Pushes
+pub use Rattle.pushed_calls.specs.Jumps as PushedJumps
+pub use Rattle.pushed_calls.specs.Slots as PushedSlots
+pub use Rattle.pushed_calls.specs.Facts as PushedFacts
 pub use Rattle.step_slots.specs.Facts as SlotFacts
 pub mod Stepping
 -- flow

@@ -123,12 +123,14 @@ pub mod region {
 }
 
 /// Slots for displaced single stepping: an instruction elsewhere, and the jump back. `step_code` takes bytes, and `step_at` makes the same block at a
-/// place of the caller's. `done_len` returns from which byte of that block on the instruction has happened.
+/// place of the caller's. `done_len` returns from which byte of that block on the instruction has happened. `step_call_at` makes the block of a near CALL
+/// that pushes the CALL's own return address, of the instructions that `pushed_call` returns; `pushed_laws` has what they do.
 pub mod slots {
     pub use crate::stepping::{StepCodeError, step_code};
+    pub use pushed_calls::{PushedCall, laws as pushed_laws, pushed_call};
     pub use step_slots::{
-        StandError, StepCommand, StepError, StepReply, StepSlot, StepSlots, done_len, laws, replay,
-        step_at, step_len,
+        CallError, StandError, StepCommand, StepError, StepReply, StepSlot, StepSlots, done_len,
+        laws, pushed_len, replay, step_at, step_call_at, step_len,
     };
 }
 

@@ -1,9 +1,11 @@
 //! The code of a single step.
 
 ghost use Rattle.c_calls.specs.Numbers.{bits_numbered};
+ghost use Rattle.c_calls.specs.StepCalls.{IsStepCall};
 ghost use Rattle.c_calls.specs.Steps.{IsStep, IsStepLen};
 
 use c_calls::flat::FlatStep;
+use c_calls::step_calls;
 use c_calls::stepping;
 use std::alloc::Global;
 
@@ -37,4 +39,27 @@ pub extern "C" fn feddurzai_step_len(bits: u32, ip: u64, bytes: &[u8], base: u64
     ensures { IsStepLen (bits_numbered bits) ip bytes.now base result }
 {
     stepping::step_len(bits, ip, bytes, base)
+}
+
+/// Writes the code with which the near CALL at the start of some bytes, whose address is `ip`, is stepped at another place, so that the called code sees the
+/// CALL's own return address: PUSH of that address, in 64-bit mode also MOV of its high half, and a jump to the target. It returns the number of bytes, at
+/// most 43.
+///
+/// `report` receives that number, the number of bytes of the CALL and those of the PUSH, also if the buffer is too small; its offset of a jump back is 0, since
+/// there is none. Or it receives the address of the refusal. The buffer is unchanged after the bytes, and after a refusal: `Mode`; `Invalid` or `TooShort`;
+/// `Form` if the instruction is no near CALL of the mode's own operand size, or one that no jump can stand for; `Wraps` and `TooFar` as for `feddurzai_step`;
+/// `Room`. `Memory` may replace any of those after `Form`. The call allocates from the C library, and frees what it took.
+#[unsafe(no_mangle)]
+pub extern "C" fn feddurzai_step_call(
+    alloc: Global,
+    bits: u32,
+    ip: u64,
+    bytes: &[u8],
+    place: u64,
+    out: &mut [u8],
+    report: &mut FlatStep,
+) -> i32
+    ensures { IsStepCall bits ip bytes.now place out.old out.new report.new result }
+{
+    step_calls::step_call(alloc, bits, ip, bytes, place, out, report)
 }

@@ -1,6 +1,7 @@
 //! The tests, by subject.
 
 mod block_tests;
+mod call_tests;
 mod compare;
 mod goal_tests;
 mod graph_tests;

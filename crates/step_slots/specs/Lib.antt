@@ -8,3 +8,5 @@ pub mod Holding
 pub mod Keeping
 pub mod Facts
 pub mod LawsBelow
+pub mod Calling
+pub mod CallsBelow

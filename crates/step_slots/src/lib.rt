@@ -3,6 +3,8 @@
 #![tactic(auto)]
 
 mod block;
+mod calling;
+mod calls_below;
 mod commands;
 pub mod laws;
 mod laws_below;
@@ -11,6 +13,7 @@ mod slots;
 mod standing;
 
 pub use block_encoder::Placed;
+pub use calling::{CallError, pushed_len, step_call_at};
 pub use code_region::{NotTaken, OpenError};
 pub use commands::{StepCommand, StepReply, replay};
 pub use refusals::StepError;

@@ -152,6 +152,16 @@ extern "C" {
         report: *mut StepReport,
     ) -> i32;
     fn feddurzai_step_len(bits: u32, old_ip: u64, bytes: *const u8, len: usize, base: u64) -> i32;
+    fn feddurzai_step_call(
+        bits: u32,
+        old_ip: u64,
+        bytes: *const u8,
+        len: usize,
+        place: u64,
+        out: *mut u8,
+        room: usize,
+        report: *mut StepReport,
+    ) -> i32;
     fn feddurzai_flow(
         bits: u32,
         base: u64,
@@ -623,6 +633,22 @@ impl Library {
     pub fn step_len(self, bits: u32, old_ip: u64, bytes: &[u8], base: u64) -> i32 {
         // SAFETY: `bytes` has `bytes.len()` readable bytes.
         unsafe { feddurzai_step_len(bits, old_ip, bytes.as_ptr(), bytes.len(), base) }
+    }
+
+    pub fn step_call(
+        self,
+        bits: u32,
+        old_ip: u64,
+        bytes: &[u8],
+        place: u64,
+        out: &mut [u8],
+        report: &mut StepReport,
+    ) -> i32 {
+        // SAFETY: each slice has as many elements as its length says, `report` is a struct of the header, and no argument
+        // that is written overlaps another.
+        unsafe {
+            feddurzai_step_call(bits, old_ip, bytes.as_ptr(), bytes.len(), place, out.as_mut_ptr(), out.len(), report)
+        }
     }
 
     pub fn flow(self, bits: u32, base: u64, bytes: &[u8], starts: &mut [u32], leaders: &mut [u32]) -> i32 {

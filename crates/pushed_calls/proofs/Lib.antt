@@ -1,0 +1,5 @@
+pub mod Rows
+pub mod Digits
+pub mod Encoded
+pub mod Placed
+pub mod Jumped
