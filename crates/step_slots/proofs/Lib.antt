@@ -5,3 +5,4 @@ pub mod Stood
 pub mod Kept
 pub mod Slotted
 pub mod Done
+pub mod UnlistedSteps

@@ -9,6 +9,7 @@ mod laws_below;
 mod refusals;
 mod slots;
 mod standing;
+mod unlisted_step;
 
 pub use block_encoder::Placed;
 pub use code_region::{NotTaken, OpenError};
@@ -16,3 +17,4 @@ pub use commands::{StepCommand, StepReply, replay};
 pub use refusals::StepError;
 pub use slots::{StepSlot, StepSlots};
 pub use standing::{StandError, done_len, step_at, step_len};
+pub use unlisted_step::{UnlistedStep, UnlistedStepError, step_unlisted_at};
