@@ -11,3 +11,4 @@ mod region_tests;
 mod size_tests;
 mod slot_model_tests;
 mod slot_tests;
+mod unlisted_tests;
