@@ -123,12 +123,13 @@ pub mod region {
 }
 
 /// Slots for displaced single stepping: an instruction elsewhere, and the jump back. `step_code` takes bytes, and `step_at` makes the same block at a
-/// place of the caller's. `done_len` returns from which byte of that block on the instruction has happened.
+/// place of the caller's. `done_len` returns from which byte of that block on the instruction has happened. `step_unlisted_at` makes the block of an
+/// instruction that the opcode table leaves out.
 pub mod slots {
     pub use crate::stepping::{StepCodeError, step_code};
     pub use step_slots::{
-        StandError, StepCommand, StepError, StepReply, StepSlot, StepSlots, done_len, laws, replay,
-        step_at, step_len,
+        StandError, StepCommand, StepError, StepReply, StepSlot, StepSlots, UnlistedStep,
+        UnlistedStepError, done_len, laws, replay, step_at, step_len, step_unlisted_at,
     };
 }
 
@@ -148,8 +149,13 @@ pub mod streams {
 
 /// The offsets that control reaches, and their basic blocks.
 pub mod flow {
-    pub use crate::reached::{CodeGraphError, graph_of_code, graph_of_code_from};
-    pub use flow_graph::{FlowError, FlowGraph, flow_graph, flow_graph_from, flow_graph_in, laws};
+    pub use crate::reached::{
+        CodeGraphError, graph_of_code, graph_of_code_following, graph_of_code_from,
+    };
+    pub use flow_graph::{
+        FlowError, FlowGraph, Follow, flow_graph, flow_graph_following, flow_graph_from,
+        flow_graph_in, laws,
+    };
 }
 
 /// Hooks: what is written over the first bytes of a function, and the trampoline that does what they did; and those that are live, with their trampolines in
