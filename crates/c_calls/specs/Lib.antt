@@ -19,6 +19,7 @@ pub mod Moving
 pub mod Blocks
 pub mod Hooks
 pub mod Steps
+pub mod UnlistedSteps
 pub mod Failing
 pub mod Regions
 pub mod RegionSearch

@@ -38,4 +38,5 @@ pub mod rows;
 pub mod stepping;
 pub mod texts;
 mod unflatten;
+pub mod unlisted_step;
 pub mod version;
