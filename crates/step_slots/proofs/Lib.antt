@@ -6,3 +6,4 @@ pub mod Kept
 pub mod Slotted
 pub mod Done
 pub mod UnlistedSteps
+pub mod NumberAt

@@ -4,6 +4,7 @@ use Rattle.x86_values.specs.declared.Bits.{Bits}
 use Rattle.x86_values.specs.declared.Bits.TheVariants.{B16, B32, B64}
 use Rattle.x86_values.specs.declared.Instr.{Instr}
 use Rattle.x86_values.specs.Wrapping.{width, modulo_width}
+use Rattle.row_meaning.specs.Meaning.{sign_extended}
 use Rattle.plain_spelling.specs.declared.NoSpelling.{NoSpelling}
 use Rattle.plain_spelling.specs.Values.{low_bytes, is_extended_of, distance}
 use Rattle.encoder.specs.Encoding.{encoding}
@@ -99,3 +100,9 @@ pub data IsUnlistedStood (bits : Bits) (ip : ℕ) (bytes : List ℕ) (place : �
   measured : (shape : Shape) → IsMeasuredAs bits bytes shape → IsShapeStood bits ip (take shape.len bytes) place shape answer
       → IsUnlistedStood bits ip bytes place answer
   not_measured : (why : MeasureError) → IsMeasured bits bytes (Err why) → answer ≡ Err (NotMeasured why) → IsUnlistedStood bits ip bytes place answer
+
+-- from the place the number that is written, of 2 or 4 bytes and sign-extended, refers to the address that the old one refers to
+abbrev pub NumbersKeepTheirAddress : Type 0
+NumbersKeepTheirAddress = (bits : Bits) (ip place len : ℕ) (r : Relative) → (r.len ≡ 2) ⊎ (r.len ≡ 4) → place + len ≤ 2 ^ 64
+    → number_fits bits ip place len r ≡ true
+    → refers_to bits place len (record r { distance = sign_extended 64 (low_bytes r.len (number_at bits ip place len r)) }) ≡ refers_to bits ip len r
