@@ -60,11 +60,11 @@ fn control_goes_through_instructions_without_a_row(rt: HostRuntime) -> Result<()
             &[0, 10],
             &[0, 0],
         ),
-        // kandw k0, k0, k0; vfrczps xmm0, xmm1 (XOP); pfadd mm0, mm1; prefetchw [rax]
+        // kandw k0, k0, k0; vfrczps xmm0, xmm1 (XOP); pfadd mm0, mm1; prefetchwt1 [rax]
         (Bits::B64, 0x1000, "c5fc41c0c3", &[0, 4], &[0, 0]),
         (Bits::B64, 0x1000, "8fe97880c1c3", &[0, 5], &[0, 0]),
         (Bits::B64, 0x1000, "0f0fc19ec3", &[0, 4], &[0, 0]),
-        (Bits::B64, 0x1000, "0f0d08c3", &[0, 3], &[0, 0]),
+        (Bits::B64, 0x1000, "0f0d10c3", &[0, 3], &[0, 0]),
         // xbegin over nop, to its own end, to itself, and behind the bytes
         (
             Bits::B64,
@@ -206,9 +206,9 @@ fn a_step_refers_to_the_same_address(rt: HostRuntime) -> Result<(), Fail> {
             "62f37d48250510000000ff",
             "62f37d48250510f0ffffffe9fbefffff",
         ),
-        // vfrczps xmm0, xmm1 (XOP); prefetchw [rip+0x10]
+        // vfrczps xmm0, xmm1 (XOP); prefetchwt1 [rip+0x10]
         (Bits::B64, "8fe97880c1", "8fe97880c1e9fbefffff"),
-        (Bits::B64, "0f0d0d10000000", "0f0d0d10f0ffffe9fbefffff"),
+        (Bits::B64, "0f0d1510000000", "0f0d1510f0ffffe9fbefffff"),
         // xbegin, with a distance of 32 or 16 bits
         (Bits::B64, "c7f801000000", "c7f801f0ffffe9fbefffff"),
         (Bits::B32, "c7f801000000", "c7f801f0ffffe9fbefffff"),
