@@ -151,7 +151,8 @@ fn with_jump(
     requires short { len ≤ 15 }
     requires place { place + len < 2 ^ 64 }
     ensures jumped { IsJumped bits ip place len instruction.items result }
-    ensures len { IfOk result (λ step. array_vec_len step.bytes ≡ len + spec.jump_len bits) }
+    ensures len { IfOk result (λ step. array_vec_len step.bytes ≡ step.len + spec.jump_len bits) }
+    ensures short { IfOk result (λ step. array_vec_len step.bytes ≤ 20) }
 {
     move_goals::moved_targets::laws::spellings_are_moved();
     move_goals::branch_forms::laws::pieces_have_their_lengths();
@@ -178,7 +179,8 @@ fn stand_shape(
     requires short { shape.now.len ≤ 15 }
     requires inside { StandsInside shape.now.len shape.now.relative }
     ensures answer { IsShapeStood bits ip own.now place shape.now result }
-    ensures len { IfOk result (λ step. array_vec_len step.bytes ≡ shape.now.len + spec.jump_len bits) }
+    ensures len { IfOk result (λ step. array_vec_len step.bytes ≡ step.len + spec.jump_len bits) }
+    ensures short { IfOk result (λ step. array_vec_len step.bytes ≤ 20) }
 {
     let end = u128::from(place) + u128::from(shape.len) + u128::from(jump_len(bits));
     if passes(bits, end) {
@@ -209,8 +211,8 @@ pub fn step_unlisted_at(
     place: u64,
 ) -> Result<UnlistedStep, UnlistedStepError>
     ensures answer { IsUnlistedStood bits ip bytes.now place result }
-    ensures short { IfOk result (λ step. array_vec_len step.bytes ≤ 20) }
     ensures len { IfOk result (λ step. array_vec_len step.bytes ≡ step.len + spec.jump_len bits) }
+    ensures short { IfOk result (λ step. array_vec_len step.bytes ≤ 20) }
 {
     match measure(bits, bytes) {
         Ok(shape) => stand_shape(bits, ip, &bytes[..usize::from(shape.len)], place, &shape),
