@@ -181,10 +181,10 @@ fn exits_of_shape(bits: Bits, base: u64, bytes: &[u8], offset: usize, shape: &Sh
     ensures inside { IfSome result.target (λ q. q < length bytes.now) }
 {
     let end = offset + usize::from(shape.len);
-    let target = shape_target(bits, base, offset, shape);
+    let goal = shape_target(bits, base, offset, shape);
     Exits {
-        next: next_exit(true, target, end, shape.len, bytes.len()),
-        target: target_exit(target, end, bytes.len()),
+        next: next_exit(true, goal, end, shape.len, bytes.len()),
+        target: target_exit(goal, end, bytes.len()),
     }
 }
 
@@ -248,13 +248,7 @@ fn unread_stop(
 }
 
 /// Returns what starts at an offset, and where control goes from it.
-pub(crate) fn stop_at(
-    follow: Follow,
-    bits: Bits,
-    base: u64,
-    bytes: &[u8],
-    offset: usize,
-) -> Stop
+pub(crate) fn stop_at(follow: Follow, bits: Bits, base: u64, bytes: &[u8], offset: usize) -> Stop
     requires inside { offset < length bytes.now }
     requires few { length bytes.now ≤ 16777216 }
     ensures told { Tells (code_bytes_with follow bits base bytes.now) offset result.flow }
