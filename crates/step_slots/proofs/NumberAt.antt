@@ -1,5 +1,5 @@
 -- From the place of its block the number of an instruction without a row comes to the address that it came to.
-use Rattle.std.proofs.Common.{◌≡◌, ℕ, ◌+◌, ◌-◌, ◌*◌, ◌%◌, ◌^◌, ◌≤◌, ◌<◌, ◌⊎◌, inl, inr, Bool, true, false, ltb, leb, nat_lt, refl, sym, subst, arith}
+use Rattle.std.proofs.Common.{◌≡◌, ℕ, ◌+◌, ◌-◌, ◌*◌, ◌/◌, ◌%◌, ◌^◌, ◌≤◌, ◌<◌, ◌⊎◌, inl, inr, Bool, true, false, ltb, leb, nat_lt, refl, sym, subst, arith}
 use Rattle.std.specs.Prelude.{if◌then◌else◌, ◌&&◌, ◌||◌}
 use Rattle.std.proofs.lemmas.Bool.{ltb-true, ltb-false, leb-true}
 use Rattle.x86_values.specs.declared.Bits.{Bits}
@@ -14,7 +14,7 @@ use Rattle.step_slots.specs.UnlistedStep.{refers_to, NumbersKeepTheirAddress}
 -- ---- sign-extended numbers
 
 -- a number below 2 * h, sign-extended to 64 bits
-Signed : ℕ → ℕ → ℕ → Type 0
+abbrev Signed : ℕ → ℕ → ℕ → Type 0
 Signed h v e = ((v < h) × (e ≡ v)) ⊎ ((h ≤ v) × (e + 2 * h ≡ v + 2 ^ 64))
 
 signed-by : (h v : ℕ) (test : Bool) → nat_lt (2 * v) (2 * h) ≡ test → v < 2 * h → 2 * h ≤ 2 ^ 64 →
@@ -44,7 +44,7 @@ extended-4 x = by_value (x % 256 + 256 * (x / 256 % 256 + 256 * (x / 256 / 256 %
 -- ---- numbers that some bytes hold
 
 -- a number of w bits that n bytes hold: they have all bits, or it is near an edge
-Held : ℕ → ℕ → ℕ → Type 0
+abbrev Held : ℕ → ℕ → ℕ → Type 0
 Held n w x = (x < 2 ^ w) × ((w ≤ 8 * n) ⊎ ((2 * x < 2 ^ (8 * n)) ⊎ (2 * 2 ^ w ≤ 2 * x + 2 ^ (8 * n))))
 
 and-true : (a b : Bool) → a && b ≡ true → (a ≡ true) × (b ≡ true)
