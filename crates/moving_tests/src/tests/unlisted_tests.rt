@@ -23,24 +23,11 @@ fn graph_of(
     if bytes.len() > 16 {
         return Err(Fail::new("there are more than 16 bytes"));
     }
-    Ok(flow_graph_following(
-        alloc,
-        follow,
-        bits,
-        base,
-        &bytes,
-        &[0],
-    )?)
+    Ok(flow_graph_following(alloc, follow, bits, base, &bytes, &[0])?)
 }
 
 /// That control reaches these offsets, whose basic blocks have these leaders.
-fn reaches(
-    rt: &impl Abort,
-    code: &str,
-    graph: &FlowGraph,
-    starts: &[u32],
-    leaders: &[u32],
-) {
+fn reaches(rt: &impl Abort, code: &str, graph: &FlowGraph, starts: &[u32], leaders: &[u32]) {
     same_items(rt, code, graph.starts(), starts);
     same_items(rt, code, graph.leaders(), leaders);
 }
@@ -84,13 +71,7 @@ fn control_goes_through_instructions_without_a_row(rt: HostRuntime) -> Result<()
             &[0, 6, 7],
             &[0, 6, 7],
         ),
-        (
-            Bits::B32,
-            0x1000,
-            "66c7f8010090c3",
-            &[0, 5, 6],
-            &[0, 5, 6],
-        ),
+        (Bits::B32, 0x1000, "66c7f8010090c3", &[0, 5, 6], &[0, 5, 6]),
         (Bits::B16, 0x1000, "c7f8010090c3", &[0, 4, 5], &[0, 4, 5]),
         (
             Bits::B16,
@@ -146,7 +127,11 @@ fn only_xbegin_branches(rt: HostRuntime) -> Result<(), Fail> {
     let cases: &[(&str, &[Result<Flow, DecodeError>])] = &[
         (
             "c7f80100000090c3",
-            &[Ok(Flow::ConditionalBranch), Ok(Flow::Next), Ok(Flow::Return)],
+            &[
+                Ok(Flow::ConditionalBranch),
+                Ok(Flow::Next),
+                Ok(Flow::Return),
+            ],
         ),
         (
             "62f17d48ef0510000000c3",
