@@ -23,9 +23,9 @@
  * Threads: the library has no global state and takes no locks, so any number of threads may call it at once.
  *
  * Memory: feddurzai_move, feddurzai_move_outside, feddurzai_move_blocks, feddurzai_step, feddurzai_step_call,
- * feddurzai_flow, feddurzai_flow_from, feddurzai_detour and feddurzai_look call malloc, realloc and free, and free all that they
- * allocate before they return. All other functions allocate nothing and may be called from a signal handler or from a
- * hook of malloc.
+ * feddurzai_flow, feddurzai_flow_from, feddurzai_flow_unlisted, feddurzai_detour and feddurzai_look call malloc, realloc
+ * and free, and free all that they allocate before they return. All other functions allocate nothing and may be called
+ * from a signal handler or from a hook of malloc.
  *
  * The header is C99 and C++. Numbers are in the machine's byte order. Lengths and sizes are in bytes. "SDM" is the
  * Intel 64 and IA-32 Architectures Software Developer's Manual; sections are of its volume 2 if no volume is named. The
@@ -64,8 +64,8 @@ uint32_t feddurzai_version(void);
  * Statuses. A function that returns int32_t returns 0 or more on success and one of these on refusal.
  *
  * After a refusal the function has written nothing, with one exception: feddurzai_move, feddurzai_move_outside,
- * feddurzai_move_blocks, feddurzai_step, feddurzai_step_call and feddurzai_detour always write their report, unless
- * they return FEDDURZAI_NULL.
+ * feddurzai_move_blocks, feddurzai_step, feddurzai_step_call, feddurzai_step_unlisted and feddurzai_detour always write
+ * their report, unless they return FEDDURZAI_NULL.
  *
  * If several refusals apply, the function returns the first in the order of its comment. FEDDURZAI_NULL precedes all
  * others. Every function that takes a pointer can return it, so the comments do not repeat it.
@@ -1250,6 +1250,28 @@ int32_t feddurzai_step_len(uint32_t bits, uint64_t old_ip, const uint8_t *bytes,
 int32_t feddurzai_step_call(uint32_t bits, uint64_t old_ip, const uint8_t *bytes, size_t len, uint64_t place,
     uint8_t *out, size_t room, feddurzai_step_report *report);
 
+/*
+ * Makes the code with which a debugger runs one instruction that the opcode table leaves out, as feddurzai_measure
+ * measures it, at another address. The arguments are those of feddurzai_step; FEDDURZAI_MAX_STEP_UNLISTED bytes are
+ * always enough. A debugger calls feddurzai_step first, and this function after _INVALID or _TOO_SHORT.
+ *
+ * The code is the instruction and a near jump back to the address after it, old_ip + report->len. If the instruction has
+ * a relative number (feddurzai_shape), that is set so that it refers to the same address; every other byte stays. The
+ * instruction has happened exactly if control is at back_at, which is the length of the instruction; done_at is the same.
+ *
+ * Returns the number of bytes, or FEDDURZAI_BAD_MODE, _INVALID, _TOO_SHORT (as feddurzai_measure), _WRAPS (the code extends
+ * past the address space of the mode), _TOO_FAR (the instruction or the jump back does not reach its address from
+ * `place`), _NO_ROOM.
+ *
+ *     // vpxord zmm0, zmm0, [rip+0x10] at 0x1000, to be stepped at 0x2000
+ *     len = feddurzai_step_unlisted(64, 0x1000, (const uint8_t *)"\x62\xf1\x7d\x48\xef\x05\x10\x00\x00\x00", 10, 0x2000,
+ *         out, sizeof out, &report);
+ *     // len is 15: 62 f1 7d 48 ef 05 10 f0 ff ff, and e9 fb ef ff ff, jmp 0x100a; back_at is 10
+ */
+#define FEDDURZAI_MAX_STEP_UNLISTED 20
+int32_t feddurzai_step_unlisted(uint32_t bits, uint64_t old_ip, const uint8_t *bytes, size_t len, uint64_t place,
+    uint8_t *out, size_t room, feddurzai_step_report *report);
+
 /* ---- control flow ------------------------------------------------------------------------------------------ */
 
 /*
@@ -1298,6 +1320,21 @@ enum {
  *     // len is 3: the offsets 0, 2 and 3 begin three basic blocks, and kinds[2] is FEDDURZAI_FLOW_RETURN
  */
 int32_t feddurzai_flow_from(uint32_t bits, uint64_t base, const uint8_t *bytes, size_t len, const uint32_t *entries,
+    size_t count, uint32_t *starts, size_t room, uint32_t *leaders, size_t leaders_room, uint8_t *kinds,
+    size_t kinds_room);
+
+/*
+ * Follows control as feddurzai_flow_from does, and also through instructions that the opcode table leaves out, as far as
+ * feddurzai_measure measures them: to the end of each, and from XBEGIN also to its target, where an aborted transaction
+ * continues. Their kind is FEDDURZAI_FLOW_NEXT, that of XBEGIN FEDDURZAI_FLOW_CONDITIONAL. Arguments, answers and refusals
+ * are those of feddurzai_flow_from.
+ *
+ *     // xbegin 7; nop; ret
+ *     len = feddurzai_flow_unlisted(64, 0, (const uint8_t *)"\xc7\xf8\x01\x00\x00\x00\x90\xc3", 8, entries, 1, starts, 8,
+ *         leaders, 8, kinds, 8);
+ *     // len is 3: the offsets 0, 6 and 7 begin three basic blocks; feddurzai_flow_from returns 1
+ */
+int32_t feddurzai_flow_unlisted(uint32_t bits, uint64_t base, const uint8_t *bytes, size_t len, const uint32_t *entries,
     size_t count, uint32_t *starts, size_t room, uint32_t *leaders, size_t leaders_room, uint8_t *kinds,
     size_t kinds_room);
 
@@ -1685,6 +1722,14 @@ static inline int32_t feddurzai_checked_step_call(uint32_t bits, uint64_t old_ip
     return feddurzai_step_call(bits, old_ip, bytes, len, place, out, room, report);
 }
 
+static inline int32_t feddurzai_checked_step_unlisted(uint32_t bits, uint64_t old_ip, const uint8_t *bytes, size_t len,
+    uint64_t place, uint8_t *out, size_t room, feddurzai_step_report *report)
+{
+    if (feddurzai_is_null(bytes, len) || feddurzai_is_null(out, room) || report == NULL)
+        return FEDDURZAI_NULL;
+    return feddurzai_step_unlisted(bits, old_ip, bytes, len, place, out, room, report);
+}
+
 static inline int32_t feddurzai_checked_flow(uint32_t bits, uint64_t base, const uint8_t *bytes, size_t len,
     uint32_t *starts, size_t room, uint32_t *leaders, size_t leaders_room)
 {
@@ -1702,6 +1747,18 @@ static inline int32_t feddurzai_checked_flow_from(uint32_t bits, uint64_t base, 
     if (feddurzai_is_null(leaders, leaders_room) || feddurzai_is_null(kinds, kinds_room))
         return FEDDURZAI_NULL;
     return feddurzai_flow_from(bits, base, bytes, len, entries, count, starts, room, leaders, leaders_room, kinds,
+        kinds_room);
+}
+
+static inline int32_t feddurzai_checked_flow_unlisted(uint32_t bits, uint64_t base, const uint8_t *bytes, size_t len,
+    const uint32_t *entries, size_t count, uint32_t *starts, size_t room, uint32_t *leaders, size_t leaders_room,
+    uint8_t *kinds, size_t kinds_room)
+{
+    if (feddurzai_is_null(bytes, len) || feddurzai_is_null(entries, count) || feddurzai_is_null(starts, room))
+        return FEDDURZAI_NULL;
+    if (feddurzai_is_null(leaders, leaders_room) || feddurzai_is_null(kinds, kinds_room))
+        return FEDDURZAI_NULL;
+    return feddurzai_flow_unlisted(bits, base, bytes, len, entries, count, starts, room, leaders, leaders_room, kinds,
         kinds_room);
 }
 
@@ -1757,8 +1814,10 @@ static inline int32_t feddurzai_checked_look(uint32_t bits, uint64_t ip, const u
 #define feddurzai_step feddurzai_checked_step
 #define feddurzai_step_len feddurzai_checked_step_len
 #define feddurzai_step_call feddurzai_checked_step_call
+#define feddurzai_step_unlisted feddurzai_checked_step_unlisted
 #define feddurzai_flow feddurzai_checked_flow
 #define feddurzai_flow_from feddurzai_checked_flow_from
+#define feddurzai_flow_unlisted feddurzai_checked_flow_unlisted
 #define feddurzai_detour feddurzai_checked_detour
 #define feddurzai_look feddurzai_checked_look
 

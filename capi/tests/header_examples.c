@@ -229,6 +229,13 @@ static void stepped(void)
     CHECK_BYTES(out, "\x68\x05\x10\x00\x00\xc7\x44\x24\x04\x00\x00\x00\x00\xe9\xee\x07\x00\x00");
     CHECK(report.done_at, 5);
     CHECK(report.back_at, 0);
+    // vpxord zmm0, zmm0, [rip+0x10] at 0x1000, to be stepped at 0x2000
+    len = feddurzai_step_unlisted(64, 0x1000, (const uint8_t *)"\x62\xf1\x7d\x48\xef\x05\x10\x00\x00\x00", 10, 0x2000,
+        out, sizeof out, &report);
+    // len is 15: 62 f1 7d 48 ef 05 10 f0 ff ff, and e9 fb ef ff ff, jmp 0x100a; back_at is 10
+    CHECK(len, 15);
+    CHECK(memcmp(out, "\x62\xf1\x7d\x48\xef\x05\x10\xf0\xff\xff\xe9\xfb\xef\xff\xff", 15), 0);
+    CHECK(report.len << 16 | report.done_at << 8 | (int)report.back_at, 10 << 16 | 10 << 8 | 10);
 }
 
 static void followed(void)
@@ -242,6 +249,18 @@ static void followed(void)
     CHECK(starts[1] << 8 | leaders[1], 2 << 8 | 2);
     CHECK(starts[2] << 8 | leaders[2], 3 << 8 | 3);
     CHECK(kinds[2], FEDDURZAI_FLOW_RETURN);
+    // xbegin 7; nop; ret
+    len = feddurzai_flow_unlisted(64, 0, (const uint8_t *)"\xc7\xf8\x01\x00\x00\x00\x90\xc3", 8, entries, 1, starts, 8,
+        leaders, 8, kinds, 8);
+    // len is 3: the offsets 0, 6 and 7 begin three basic blocks; feddurzai_flow_from returns 1
+    CHECK(len, 3);
+    CHECK(starts[1] << 8 | leaders[1], 6 << 8 | 6);
+    CHECK(starts[2] << 8 | leaders[2], 7 << 8 | 7);
+    CHECK(kinds[0], FEDDURZAI_FLOW_CONDITIONAL);
+    len = feddurzai_flow_from(64, 0, (const uint8_t *)"\xc7\xf8\x01\x00\x00\x00\x90\xc3", 8, entries, 1, starts, 8,
+        leaders, 8, kinds, 8);
+    CHECK(len, 1);
+    CHECK(kinds[0], FEDDURZAI_KIND_INVALID);
 }
 
 static void hooked(void)

@@ -178,8 +178,11 @@ static void check_nulls(void)
     CHECK(feddurzai_region_fill(&region, live, 2, 0, code, 4, NULL, sizeof out), FEDDURZAI_NULL);
 
     CHECK(feddurzai_step(64, 0, NULL, 4, 0x2000, out, sizeof out, &step), FEDDURZAI_NULL);
+    CHECK(feddurzai_step_unlisted(64, 0, NULL, 4, 0x2000, out, sizeof out, &step), FEDDURZAI_NULL);
     CHECK(feddurzai_step(64, 0, code, 4, 0x2000, NULL, sizeof out, &step), FEDDURZAI_NULL);
+    CHECK(feddurzai_step_unlisted(64, 0, code, 4, 0x2000, NULL, sizeof out, &step), FEDDURZAI_NULL);
     CHECK(feddurzai_step(64, 0, code, 4, 0x2000, out, sizeof out, NULL), FEDDURZAI_NULL);
+    CHECK(feddurzai_step_unlisted(64, 0, code, 4, 0x2000, out, sizeof out, NULL), FEDDURZAI_NULL);
     CHECK(feddurzai_step(64, 0, NULL, 0, 0, NULL, 0, NULL), FEDDURZAI_NULL);
     CHECK(feddurzai_step_len(64, 0, NULL, 4, 0), FEDDURZAI_NULL);
     CHECK(feddurzai_step_call(64, 0, NULL, 4, 0x2000, out, sizeof out, &step), FEDDURZAI_NULL);
@@ -198,7 +201,9 @@ static void check_nulls(void)
     CHECK(feddurzai_flow(64, 0, code, 4, starts, 3, NULL, 3), FEDDURZAI_NULL);
     CHECK(feddurzai_flow(64, 0, NULL, 4, NULL, 3, NULL, 3), FEDDURZAI_NULL);
     CHECK(feddurzai_flow_from(64, 0, NULL, 4, firsts, 2, starts, 3, leaders, 3, kinds, 3), FEDDURZAI_NULL);
+    CHECK(feddurzai_flow_unlisted(64, 0, NULL, 4, firsts, 2, starts, 3, leaders, 3, kinds, 3), FEDDURZAI_NULL);
     CHECK(feddurzai_flow_from(64, 0, code, 4, NULL, 2, starts, 3, leaders, 3, kinds, 3), FEDDURZAI_NULL);
+    CHECK(feddurzai_flow_unlisted(64, 0, code, 4, NULL, 2, starts, 3, leaders, 3, kinds, 3), FEDDURZAI_NULL);
     CHECK(feddurzai_flow_from(64, 0, code, 4, firsts, 2, NULL, 3, leaders, 3, kinds, 3), FEDDURZAI_NULL);
     CHECK(feddurzai_flow_from(64, 0, code, 4, firsts, 2, starts, 3, NULL, 3, kinds, 3), FEDDURZAI_NULL);
     CHECK(feddurzai_flow_from(64, 0, code, 4, firsts, 2, starts, 3, leaders, 3, NULL, 3), FEDDURZAI_NULL);
@@ -206,6 +211,7 @@ static void check_nulls(void)
     CHECK(feddurzai_look(64, 0, code, 4, NULL, 2, 2, firsts, 2, 0, &view), FEDDURZAI_NULL);
     CHECK(feddurzai_look(64, 0, code, 4, firsts, 2, 2, NULL, 2, 0, &view), FEDDURZAI_NULL);
     CHECK(feddurzai_look(64, 0, code, 4, firsts, 2, 2, firsts, 2, 0, NULL), FEDDURZAI_NULL);
+    CHECK(feddurzai_flow_unlisted(64, 0, code, 4, firsts, 2, starts, 3, leaders, 3, NULL, 3), FEDDURZAI_NULL);
 
     /* before every other refusal, and no cause of the encoder's */
     CHECK(feddurzai_decode(17, 0, code, 4, NULL), FEDDURZAI_NULL);
@@ -289,6 +295,7 @@ static void check_empty(void)
     CHECK(feddurzai_step(64, 0x1000, mov, 5, 0x2000, NULL, 0, &step), FEDDURZAI_NO_ROOM);
     CHECK(step.bytes == 10 && step.back_at == 5 && step.address == 0 && step.len == 5 && step.done_at == 5, 1);
     CHECK(feddurzai_step(64, 0x1000, NULL, 0, 0x2000, NULL, 0, &step), FEDDURZAI_TOO_SHORT);
+    CHECK(feddurzai_step_unlisted(64, 0x1000, NULL, 0, 0x2000, NULL, 0, &step), FEDDURZAI_TOO_SHORT);
     CHECK(step.bytes == 0 && step.back_at == 0 && step.address == 0 && step.len == 0 && step.done_at == 0, 1);
     CHECK(feddurzai_step_call(64, 0x1000, (const uint8_t *)"\xff\xd0", 2, 0x2000, NULL, 0, &step), FEDDURZAI_NO_ROOM);
     CHECK(step.bytes == 15 && step.back_at == 0 && step.address == 0 && step.len == 2 && step.done_at == 5, 1);
@@ -330,6 +337,7 @@ static void check_zeros(void)
     CHECK(feddurzai_flow(0, 0, NULL, 0, NULL, 0, NULL, 0), FEDDURZAI_BAD_MODE);
     CHECK(feddurzai_flow_from(0, 0, NULL, 0, NULL, 0, NULL, 0, NULL, 0, NULL, 0), FEDDURZAI_BAD_MODE);
     CHECK(feddurzai_look(0, 0, NULL, 0, NULL, 0, 0, NULL, 0, 0, &view), FEDDURZAI_BAD_MODE);
+    CHECK(feddurzai_flow_unlisted(0, 0, NULL, 0, NULL, 0, NULL, 0, NULL, 0, NULL, 0), FEDDURZAI_BAD_MODE);
     CHECK(feddurzai_name(0, NULL, 0), FEDDURZAI_NO_ROOM);
     CHECK(feddurzai_notation(0, NULL, 0), FEDDURZAI_NO_ROOM);
     CHECK(feddurzai_row_operand(0, 0, &access, NULL, 0), FEDDURZAI_NO_ROOM);
@@ -351,6 +359,7 @@ static void check_zeros(void)
     CHECK(feddurzai_region_release(&region, live, 2, 0), FEDDURZAI_BAD_REGION);
     CHECK(feddurzai_region_fill(&region, live, 2, 0, NULL, 0, out, 0), FEDDURZAI_BAD_REGION);
     CHECK(feddurzai_step(0, 0, NULL, 0, 0, NULL, 0, &step), FEDDURZAI_BAD_MODE);
+    CHECK(feddurzai_step_unlisted(0, 0, NULL, 0, 0, NULL, 0, &step), FEDDURZAI_BAD_MODE);
     CHECK(step.bytes == 0 && step.back_at == 0 && step.address == 0 && step.len == 0 && step.done_at == 0, 1);
     CHECK(feddurzai_step_len(0, 0, NULL, 0, 0), FEDDURZAI_BAD_MODE);
     CHECK(feddurzai_step_call(0, 0, NULL, 0, 0, NULL, 0, &step), FEDDURZAI_BAD_MODE);

@@ -173,6 +173,7 @@ static void works(void)
     CALL(feddurzai_move_blocks, 64, P(code), SIZE, P(blocks), 2, P(out), sizeof out, P(places), 2, P(map), 64, P(&placed));
     CALL(feddurzai_flow, 64, 0x401000, P(code), SIZE, P(starts), 128, P(leaders), 128);
     CALL(feddurzai_flow_from, 64, 0x401000, P(code), SIZE, P(entries), 2, P(starts), 128, P(leaders), 128, P(kinds), 128);
+    CALL(feddurzai_flow_unlisted, 64, 0x401000, P(code), SIZE, P(entries), 2, P(starts), 128, P(leaders), 128, P(kinds), 128);
     CALL(feddurzai_detour, 64, 0x401000, P(code), SIZE, 0x7fff00000000, 0x500000, FEDDURZAI_START_MOVED, P(patch), sizeof patch,
         P(out), sizeof out, P(&detour));
     CALL(feddurzai_look, 64, 0x401000, P(code), SIZE, P(entries), 2, 8, P(entries), 1, FEDDURZAI_START_CLOSED, P(&view));

@@ -418,17 +418,22 @@ class Reached(NamedTuple):
 _KINDS: Dict[int, Union[Flow, Reason]] = {**{int(kind): kind for kind in Flow}, 0xFE: Reason.TOO_SHORT, 0xFF: Reason.INVALID}
 
 
-def flow(bits: int, base: int, code: Buffer, entries: Union[int, Iterable[int]] = 0) -> List[Reached]:
+def flow(
+    bits: int, base: int, code: Buffer, entries: Union[int, Iterable[int]] = 0, *, unlisted: bool = False
+) -> List[Reached]:
     """Follows control from the first byte of `code`, which has the address `base`, or from the offsets `entries`. Returns the reached
     instructions in ascending order.
 
     Each entry begins a basic block; entries outside the code are ignored. Calls are followed to targets in the code, and every call is
-    assumed to return. Indirect targets are unknown. Raises Refusal with BAD_MODE, TOO_LARGE (more than MAX_FLOW bytes) or NO_MEMORY.
+    assumed to return. Indirect targets are unknown. With `unlisted`, control also goes through instructions that `measure` measures: to the
+    end of each, and from XBEGIN also to its target. Raises Refusal with BAD_MODE, TOO_LARGE (more than MAX_FLOW bytes) or NO_MEMORY.
 
     >>> [(reached.start, reached.leader) for reached in flow(64, 0x1000, bytes.fromhex("7401 90 c3 90"))]
     [(0, 0), (2, 2), (3, 3)]
     >>> [reached.start for reached in flow(64, 0x1000, bytes.fromhex("7401 90 c3 90"), [2, 4])]
     [2, 3, 4]
+    >>> [reached.start for reached in flow(64, 0x1000, bytes.fromhex("62f17c4858c1 c3"), unlisted=True)]
+    [0, 6]
     """
     code = _checks.code_bytes("code", code)
     bits, base = _checks.number("bits", bits, _checks.U32), _checks.number("base", base)
@@ -439,8 +444,9 @@ def flow(bits: int, base: int, code: Buffer, entries: Union[int, Iterable[int]] 
     # at most one entry for each byte; above the limit the library decodes none
     room = min(len(code), _native.MAX_FLOW)
     starts, leaders, kinds = (c_uint32 * room)(), (c_uint32 * room)(), bytearray(room)
+    call = _native.flow_unlisted if unlisted else _native.flow_from
     count = taken(
-        _native.flow_from(
+        call(
             *(bits, base, code, len(code), (c_uint32 * len(chosen))(*chosen), len(chosen)),
             *(starts, room, leaders, room, (c_uint8 * room).from_buffer(kinds), room),
         )

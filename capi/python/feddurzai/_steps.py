@@ -28,7 +28,7 @@ class Step(NamedTuple):
     done_at: int
 
 
-def step(bits: int, old_ip: int, code: Buffer, place: int, at: int = 0) -> Step:
+def step(bits: int, old_ip: int, code: Buffer, place: int, at: int = 0, *, unlisted: bool = False) -> Step:
     """Makes the code with which a debugger runs one instruction at the address `place` while its breakpoint stays: the instruction, moved
     there, and a jump back to the address after it.
 
@@ -42,6 +42,9 @@ def step(bits: int, old_ip: int, code: Buffer, place: int, at: int = 0) -> Step:
     A CALL pushes the address after it in the code, so keep the code until the procedure returns. SYSCALL pushes nothing, but leaves that
     address in RCX.
 
+    With `unlisted`, an instruction that the opcode table leaves out and `measure` measures is stepped too. Its bytes stay, except that its
+    relative number is set so that it refers to the same address.
+
     Raises InvalidCode and TooShort as `decode` does, and Refusal with a report and BAD_MODE, WRAPS (the code extends past the address space),
     TOO_FAR (the instruction cannot reach its target from `place`) or NO_MEMORY.
 
@@ -51,11 +54,19 @@ def step(bits: int, old_ip: int, code: Buffer, place: int, at: int = 0) -> Step:
     >>> made = step(64, 0x1000, bytes.fromhex("e20e"), 0x2000)
     >>> made.code.hex(), made.done_at, made.back_at
     ('e202eb05e907f0ffffe9f4efffff', 2, 9)
+    >>> step(64, 0x1000, bytes.fromhex("62f17d48ef0510000000"), 0x2000, unlisted=True).code.hex()
+    '62f17d48ef0510f0ffffe9fbefffff'
     """
     window = _checks.front_bytes("code", code, at, _native.MAX_LEN)
     bits, old_ip = _checks.number("bits", bits, _checks.U32), _checks.number("old_ip", old_ip) + at & _checks.U64
     out, room = _CodeRoom(), _StepRoom()
-    said = _native.step(bits, old_ip, window, len(window), _checks.number("place", place), out, _native.MAX_STEP, room)
+    given = (bits, old_ip, window, len(window), _checks.number("place", place), out, _native.MAX_STEP, room)
+    said = _native.step(*given)
+    if unlisted and said in (Reason.INVALID, Reason.TOO_SHORT):
+        measured = _native.step_unlisted(*given)
+        # without a measured instruction there the refusal stays that of the table
+        if measured not in (Reason.INVALID, Reason.TOO_SHORT):
+            said = measured
     report = StepReport(*_STEP_REPORT.unpack(room.raw))
     if said < 0:
         raise refusal_of(said, report)

@@ -86,6 +86,35 @@ impl FlowGraph {
 ///
 /// [`Error::BadMode`], [`Error::TooLarge`] (more than 16 MiB) or [`Error::NoMemory`].
 pub fn flow_graph(bitness: u32, base: u64, code: &[u8], entries: &[u32]) -> Result<FlowGraph, Error> {
+    followed(bitness, base, code, entries, Library::flow_from)
+}
+
+/// Follows control as [`flow_graph`] does, and also through instructions that the opcode table leaves out: those of
+/// AVX-512, for example. Control goes to the end of each, and from XBEGIN also to its target.
+///
+/// ```
+/// // vaddps zmm0, zmm0, zmm1; ret
+/// let code = b"\x62\xF1\x7C\x48\x58\xC1\xC3";
+/// let reached = |graph: feddurzai::FlowGraph| graph.reached().len();
+/// assert_eq!(reached(feddurzai::flow_graph(64, 0x1000, code, &[0])?), 1);
+/// assert_eq!(reached(feddurzai::flow_graph_unlisted(64, 0x1000, code, &[0])?), 2);
+/// # Ok::<(), feddurzai::Error>(())
+/// ```
+///
+/// # Errors
+///
+/// Those of [`flow_graph`].
+pub fn flow_graph_unlisted(bitness: u32, base: u64, code: &[u8], entries: &[u32]) -> Result<FlowGraph, Error> {
+    followed(bitness, base, code, entries, Library::flow_unlisted)
+}
+
+fn followed(
+    bitness: u32,
+    base: u64,
+    code: &[u8],
+    entries: &[u32],
+    follow: impl Fn(Library, u32, u64, &[u8], &[u32], FlowOut<'_>) -> i32,
+) -> Result<FlowGraph, Error> {
     let library = Library::get()?;
     if code.len() > MAX_FLOW {
         // the library gives this answer too; its buffers are not needed for it
@@ -93,7 +122,7 @@ pub fn flow_graph(bitness: u32, base: u64, code: &[u8], entries: &[u32]) -> Resu
     }
     let (mut starts, mut leaders, mut kinds) = (vec![0; code.len()], vec![0; code.len()], vec![0; code.len()]);
     let out = FlowOut { starts: &mut starts, leaders: &mut leaders, kinds: &mut kinds };
-    let count = taken(library.flow_from(bitness, base, code, entries, out))?;
+    let count = taken(follow(library, bitness, base, code, entries, out))?;
     let found = starts.iter().zip(&leaders).zip(&kinds).take(count);
     let reached = found.map(|((&offset, &leader), &kind)| Reached { offset, leader, kind: kind_of(kind) }).collect();
     Ok(FlowGraph { reached })

@@ -90,7 +90,7 @@ pub use encoder::Encoder;
 pub use encoder::{assemble, jump, read_intel, Jump, JumpBytes, MAX_INSTRUCTION_LENGTH};
 pub use error::{BlocksError, Cause, Error};
 #[cfg(feature = "alloc")]
-pub use flow::{basic_blocks, flow_graph, FlowGraph, Reached, ReachedKind};
+pub use flow::{basic_blocks, flow_graph, flow_graph_unlisted, FlowGraph, Reached, ReachedKind};
 pub use formatter::{
     line_text, Formatter, FormatterOutput, FormatterSyntax, FormatterTextKind, GasFormatter, IntelFormatter,
     MasmFormatter, NasmFormatter,
@@ -113,7 +113,7 @@ pub use operand::{MemoryOperand, OpKind, Operand};
 pub use region::{LiveBlock, Region};
 pub use register::{Register, RegisterClass};
 #[cfg(feature = "alloc")]
-pub use step::{step, step_call, step_len, Step, StepCall, StepSlot, StepSlots};
+pub use step::{step, step_call, step_len, step_unlisted, Step, StepCall, StepSlot, StepSlots};
 pub use sys::Text;
 
 #[doc(hidden)]

@@ -47,8 +47,37 @@ pub struct Step {
 /// [`Error::BadMode`], [`Error::Invalid`], [`Error::TooShort`], [`Error::Wraps`], [`Error::TooFar`] or
 /// [`Error::NoMemory`].
 pub fn step(bitness: u32, old_ip: u64, code: &[u8], place: u64) -> Result<Step, Error> {
+    stepped(bitness, old_ip, code, place, Library::step)
+}
+
+/// Makes the code that runs the instruction at the front of `code` at the address `place`, if the opcode table leaves that
+/// instruction out: one of AVX-512, for example. Its bytes stay, except that its relative number is set so that it refers
+/// to the same address. It has happened exactly when control is at [`Step::back_at`].
+///
+/// ```
+/// // vpxord zmm0, zmm0, [rip+0x10] at 0x1000, to be stepped at 0x2000
+/// let made = feddurzai::step_unlisted(64, 0x1000, b"\x62\xF1\x7D\x48\xEF\x05\x10\x00\x00\x00", 0x2000)?;
+/// assert_eq!(made.code, b"\x62\xF1\x7D\x48\xEF\x05\x10\xF0\xFF\xFF\xE9\xFB\xEF\xFF\xFF");
+/// # Ok::<(), feddurzai::Error>(())
+/// ```
+///
+/// # Errors
+///
+/// [`Error::BadMode`]; [`Error::Invalid`] or [`Error::TooShort`] if no such instruction begins there; [`Error::Wraps`] or
+/// [`Error::TooFar`].
+pub fn step_unlisted(bitness: u32, old_ip: u64, code: &[u8], place: u64) -> Result<Step, Error> {
+    stepped(bitness, old_ip, code, place, Library::step_unlisted)
+}
+
+fn stepped(
+    bitness: u32,
+    old_ip: u64,
+    code: &[u8],
+    place: u64,
+    call: impl Fn(Library, u32, u64, &[u8], u64, &mut [u8], &mut sys::StepReport) -> i32,
+) -> Result<Step, Error> {
     let (mut out, mut report) = (vec![0; MAX_STEP], sys::StepReport::default());
-    let status = Library::get()?.step(bitness, old_ip, code, place, &mut out, &mut report);
+    let status = call(Library::get()?, bitness, old_ip, code, place, &mut out, &mut report);
     if status < 0 {
         return Err(Error::of(status, Place { address: report.address, ..Place::default() }));
     }

@@ -3,7 +3,8 @@ use Rattle.std.proofs.Common.{◌≡◌, ℕ, zero, suc, ◌+◌, ◌<◌, ◌�
 use Rattle.std.specs.Prelude.{slice_index}
 use Rattle.std.specs.List.Sorted.{IsStrictlyIncreasing}
 use Rattle.x86_values.specs.declared.Bits.{Bits}
-use Rattle.flow_graph.specs.Control.{CodeBytes, code_bytes}
+use Rattle.flow_graph.specs.declared.exits.Follow.{Follow}
+use Rattle.flow_graph.specs.Control.{CodeBytes, code_bytes, code_bytes_with}
 use Rattle.flow_graph.specs.Reached.{Reaches, start, step}
 use Rattle.flow_graph.specs.ReachedFrom.{ReachesFrom, start as start_from, step as step_from}
 use Rattle.flow_graph.specs.Graphs.{Graph}
@@ -49,21 +50,21 @@ as_many_leaders None base bytes graph h = absurd h
 as_many_leaders (Some bits) base bytes graph h = h.len
 
 -- a graph from several entries has no more starts than the code has bytes
-pub few_reached_from : (mode : Option Bits) (base : ℕ) (bytes entries : List ℕ) (graph : Graph) → IsGraphFromIn mode base bytes entries graph →
+pub few_reached_from : (follow : Follow) (mode : Option Bits) (base : ℕ) (bytes entries : List ℕ) (graph : Graph) → IsGraphFromIn follow mode base bytes entries graph →
     length graph.starts ≤ length bytes
-few_reached_from None base bytes entries graph h = absurd h
-few_reached_from (Some bits) base bytes entries graph h =
+few_reached_from follow None base bytes entries graph h = absurd h
+few_reached_from follow (Some bits) base bytes entries graph h =
     few graph.starts (length bytes) h.ascending
-    (λ k l. reached_from_inside (code_bytes bits base bytes) entries (slice_index graph.starts k) (h.reached k 0 l)) (length graph.starts) refl
+    (λ k l. reached_from_inside (code_bytes_with follow bits base bytes) entries (slice_index graph.starts k) (h.reached k 0 l)) (length graph.starts) refl
 
 -- it has a leader for each start
-pub leaders_from : (mode : Option Bits) (base : ℕ) (bytes entries : List ℕ) (graph : Graph) → IsGraphFromIn mode base bytes entries graph →
+pub leaders_from : (follow : Follow) (mode : Option Bits) (base : ℕ) (bytes entries : List ℕ) (graph : Graph) → IsGraphFromIn follow mode base bytes entries graph →
     length graph.leaders ≡ length graph.starts
-leaders_from None base bytes entries graph h = absurd h
-leaders_from (Some bits) base bytes entries graph h = h.len
+leaders_from follow None base bytes entries graph h = absurd h
+leaders_from follow (Some bits) base bytes entries graph h = h.len
 
 -- and a flow
-pub flows_from : (mode : Option Bits) (base : ℕ) (bytes entries : List ℕ) (graph : Graph) → IsGraphFromIn mode base bytes entries graph →
+pub flows_from : (follow : Follow) (mode : Option Bits) (base : ℕ) (bytes entries : List ℕ) (graph : Graph) → IsGraphFromIn follow mode base bytes entries graph →
     length graph.flows ≡ length graph.starts
-flows_from None base bytes entries graph h = absurd h
-flows_from (Some bits) base bytes entries graph h = h.flows_len
+flows_from follow None base bytes entries graph h = absurd h
+flows_from follow (Some bits) base bytes entries graph h = h.flows_len

@@ -21,6 +21,7 @@ pub mod Hooks
 pub mod Looking
 pub mod Steps
 pub mod StepCalls
+pub mod UnlistedSteps
 pub mod Failing
 pub mod Regions
 pub mod RegionSearch

@@ -10,7 +10,7 @@ use crate::info::flow_number;
 use crate::numbers::bits_numbered;
 use crate::refusal::{Refusal, refusal_status};
 use decoder::DecodeError;
-use flow_graph::{FlowError, FlowGraph, flow_graph_from};
+use flow_graph::{FlowError, FlowGraph, Follow, flow_graph_following};
 use operand_info::Flow;
 use std::alloc::Global;
 
@@ -20,12 +20,13 @@ const MOST: usize = 16_777_216;
 /// What control reaches in some code from its first offsets.
 fn graph_from(
     alloc: Global,
+    follow: Follow,
     bits: u32,
     base: u64,
     bytes: &[u8],
     entries: &[u32],
 ) -> Result<FlowGraph, Refusal>
-    ensures { spec.IsGraphFromAnswer (bits_numbered bits) base bytes.now entries.now result }
+    ensures { spec.IsGraphFromAnswer follow (bits_numbered bits) base bytes.now entries.now result }
 {
     let Some(bits) = bits_numbered(bits) else {
         return Err(Refusal::Mode);
@@ -33,7 +34,7 @@ fn graph_from(
     if bytes.len() > MOST {
         return Err(Refusal::TooLarge);
     }
-    match flow_graph_from(alloc, bits, base, bytes, entries) {
+    match flow_graph_following(alloc, follow, bits, base, bytes, entries) {
         Ok(graph) => Ok(graph),
         Err(FlowError::Memory) => Err(Refusal::Memory),
     }
@@ -81,6 +82,27 @@ fn put_graph(graph: &FlowGraph, starts: &mut [u32], leaders: &mut [u32], kinds: 
     count_answer(count)
 }
 
+/// Writes the offsets that control reaches from several entry offsets through the instructions that are followed, with their leaders and the flow of the
+/// instruction at each. Returns their number.
+fn flow_following(
+    alloc: Global,
+    follow: Follow,
+    bits: u32,
+    base: u64,
+    bytes: &[u8],
+    entries: &[u32],
+    starts: &mut [u32],
+    leaders: &mut [u32],
+    kinds: &mut [u8],
+) -> i32
+    ensures { spec.IsFlowFollowing follow bits base bytes.now entries.now starts.old leaders.old kinds.old starts.new leaders.new kinds.new result }
+{
+    match graph_from(alloc, follow, bits, base, bytes, entries) {
+        Ok(graph) => put_graph(&graph, starts, leaders, kinds),
+        Err(why) => refusal_status(why),
+    }
+}
+
 /// Writes the offsets that control reaches from several entry offsets, with their leaders and the flow of the instruction at each. Returns their
 /// number.
 pub fn flow_from(
@@ -95,8 +117,41 @@ pub fn flow_from(
 ) -> i32
     ensures { spec.IsFlowFrom bits base bytes.now entries.now starts.old leaders.old kinds.old starts.new leaders.new kinds.new result }
 {
-    match graph_from(alloc, bits, base, bytes, entries) {
-        Ok(graph) => put_graph(&graph, starts, leaders, kinds),
-        Err(why) => refusal_status(why),
-    }
+    flow_following(
+        alloc,
+        Follow::Listed,
+        bits,
+        base,
+        bytes,
+        entries,
+        starts,
+        leaders,
+        kinds,
+    )
+}
+
+/// Writes what [`flow_from`] writes, where control also goes through instructions that the opcode table leaves out.
+pub fn flow_unlisted(
+    alloc: Global,
+    bits: u32,
+    base: u64,
+    bytes: &[u8],
+    entries: &[u32],
+    starts: &mut [u32],
+    leaders: &mut [u32],
+    kinds: &mut [u8],
+) -> i32
+    ensures { spec.IsFlowUnlisted bits base bytes.now entries.now starts.old leaders.old kinds.old starts.new leaders.new kinds.new result }
+{
+    flow_following(
+        alloc,
+        Follow::Unlisted,
+        bits,
+        base,
+        bytes,
+        entries,
+        starts,
+        leaders,
+        kinds,
+    )
 }

@@ -40,4 +40,5 @@ pub mod step_calls;
 pub mod stepping;
 pub mod texts;
 mod unflatten;
+pub mod unlisted_step;
 pub mod version;

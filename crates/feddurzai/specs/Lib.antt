@@ -56,6 +56,7 @@ pub use Rattle.step_slots.specs.Holding
 pub use Rattle.step_slots.specs.Running as SlotCommands
 pub use Rattle.step_slots.specs.Standing as StandingSteps
 pub use Rattle.step_slots.specs.Done as DoneSteps
+pub use Rattle.step_slots.specs.UnlistedStep as UnlistedSteps
 pub use Rattle.step_slots.specs.Block as StepBlocks
 pub use Rattle.step_slots.specs.Calling as CallSteps
 pub use Rattle.pushed_calls.specs.Items as PushedItems

@@ -124,13 +124,15 @@ pub mod region {
 
 /// Slots for displaced single stepping: an instruction elsewhere, and the jump back. `step_code` takes bytes, and `step_at` makes the same block at a
 /// place of the caller's. `done_len` returns from which byte of that block on the instruction has happened. `step_call_at` makes the block of a near CALL
-/// that pushes the CALL's own return address, of the instructions that `pushed_call` returns; `pushed_laws` has what they do.
+/// that pushes the CALL's own return address, of the instructions that `pushed_call` returns; `pushed_laws` has what they do. `step_unlisted_at` makes the
+/// block of an instruction that the opcode table leaves out.
 pub mod slots {
     pub use crate::stepping::{StepCodeError, step_code};
     pub use pushed_calls::{PushedCall, laws as pushed_laws, pushed_call};
     pub use step_slots::{
-        CallError, StandError, StepCommand, StepError, StepReply, StepSlot, StepSlots, done_len,
-        laws, pushed_len, replay, step_at, step_call_at, step_len,
+        CallError, StandError, StepCommand, StepError, StepReply, StepSlot, StepSlots,
+        UnlistedStep, UnlistedStepError, done_len, laws, pushed_len, replay, step_at, step_call_at,
+        step_len, step_unlisted_at,
     };
 }
 
@@ -150,8 +152,13 @@ pub mod streams {
 
 /// The offsets that control reaches, and their basic blocks.
 pub mod flow {
-    pub use crate::reached::{CodeGraphError, graph_of_code, graph_of_code_from};
-    pub use flow_graph::{FlowError, FlowGraph, flow_graph, flow_graph_from, flow_graph_in, laws};
+    pub use crate::reached::{
+        CodeGraphError, graph_of_code, graph_of_code_following, graph_of_code_from,
+    };
+    pub use flow_graph::{
+        FlowError, FlowGraph, Follow, flow_graph, flow_graph_following, flow_graph_from,
+        flow_graph_in, laws,
+    };
 }
 
 /// Hooks: what is written over the first bytes of a function, and the trampoline that does what they did; and those that are live, with their trampolines in

@@ -1,11 +1,11 @@
 //! What control reaches in code of any length.
 
 ghost use Rattle.std.specs.Prelude.{MatchResult};
-ghost use Rattle.flow_graph.specs.Control.{code_bytes};
+ghost use Rattle.flow_graph.specs.Control.{code_bytes, code_bytes_with};
 ghost use Rattle.flow_graph.specs.Graphs.{IsFlowGraph, IsFlowGraphFrom};
 ghost use Rattle.feddurzai.specs.Reached.{IsGraphRefusal, IsGraphFromRefusal};
 
-use flow_graph::{FlowError, FlowGraph, flow_graph_from, flow_graph_in};
+use flow_graph::{FlowError, FlowGraph, Follow, flow_graph_following, flow_graph_in};
 use std::alloc::Global;
 use thiserror::Error;
 use x86_values::Bits;
@@ -53,8 +53,8 @@ pub fn graph_of_code(
     }
 }
 
-/// Returns what control reaches from several entry offsets of some code whose first byte has the address `base`, like [`flow_graph_from`]. An offset
-/// past the end of the code adds nothing. It fails above 16,777,216 bytes.
+/// Returns what control reaches from several entry offsets of some code whose first byte has the address `base`, like
+/// [`flow_graph_from`](flow_graph::flow_graph_from). An offset past the end of the code adds nothing. It fails above 16,777,216 bytes.
 pub fn graph_of_code_from(
     alloc: Global,
     bits: Bits,
@@ -64,12 +64,28 @@ pub fn graph_of_code_from(
 ) -> Result<FlowGraph, CodeGraphError>
     ensures { MatchResult result (λ graph. IsFlowGraphFrom (code_bytes bits base bytes.now) entries.now graph) (λ why. IsGraphFromRefusal bytes.now why) }
 {
+    graph_of_code_following(alloc, Follow::Listed, bits, base, bytes, entries)
+}
+
+/// Returns what control reaches from several entry offsets, like [`graph_of_code_from`], through the instructions that `follow` names. With
+/// [`Follow::Unlisted`] control also goes through instructions that the opcode table leaves out, as far as `measure` returns their shape, and from
+/// XBEGIN also to its target.
+pub fn graph_of_code_following(
+    alloc: Global,
+    follow: Follow,
+    bits: Bits,
+    base: u64,
+    bytes: &[u8],
+    entries: &[u32],
+) -> Result<FlowGraph, CodeGraphError>
+    ensures { MatchResult result (λ graph. IsFlowGraphFrom (code_bytes_with follow bits base bytes.now) entries.now graph) (λ why. IsGraphFromRefusal bytes.now why) }
+{
     if bytes.len() > MOST_FROM {
         return Err(CodeGraphError::TooLarge {
             len: bytes.len() as u64,
         });
     }
-    match flow_graph_from(alloc, bits, base, bytes, entries) {
+    match flow_graph_following(alloc, follow, bits, base, bytes, entries) {
         Ok(graph) => Ok(graph),
         Err(FlowError::Memory) => Err(CodeGraphError::Memory),
     }

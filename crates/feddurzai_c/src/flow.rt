@@ -1,7 +1,7 @@
 //! What control reaches.
 
 ghost use Rattle.c_calls.specs.Flow.{IsFlow};
-ghost use Rattle.c_calls.specs.FlowFrom.{IsFlowFrom};
+ghost use Rattle.c_calls.specs.FlowFrom.{IsFlowFrom, IsFlowUnlisted};
 
 use c_calls::{flow, flow_from};
 use std::alloc::Global;
@@ -48,4 +48,24 @@ pub extern "C" fn feddurzai_flow_from(
     ensures { IsFlowFrom bits base bytes.now entries.now starts.old leaders.old kinds.old starts.new leaders.new kinds.new result }
 {
     flow_from::flow_from(alloc, bits, base, bytes, entries, starts, leaders, kinds)
+}
+
+/// Follows control as `feddurzai_flow_from` does, and also through instructions that the opcode table leaves out, as far as `feddurzai_measure` measures them.
+///
+/// From such an instruction control goes to its end, and from XBEGIN also to its target, where an aborted transaction continues. Its kind is that of an
+/// instruction after which control goes on, for XBEGIN that of a conditional branch. Refusals and buffers are those of `feddurzai_flow_from`.
+#[unsafe(no_mangle)]
+pub extern "C" fn feddurzai_flow_unlisted(
+    alloc: Global,
+    bits: u32,
+    base: u64,
+    bytes: &[u8],
+    entries: &[u32],
+    starts: &mut [u32],
+    leaders: &mut [u32],
+    kinds: &mut [u8],
+) -> i32
+    ensures { IsFlowUnlisted bits base bytes.now entries.now starts.old leaders.old kinds.old starts.new leaders.new kinds.new result }
+{
+    flow_from::flow_unlisted(alloc, bits, base, bytes, entries, starts, leaders, kinds)
 }

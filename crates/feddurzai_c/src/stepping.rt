@@ -3,10 +3,10 @@
 ghost use Rattle.c_calls.specs.Numbers.{bits_numbered};
 ghost use Rattle.c_calls.specs.StepCalls.{IsStepCall};
 ghost use Rattle.c_calls.specs.Steps.{IsStep, IsStepLen};
+ghost use Rattle.c_calls.specs.UnlistedSteps.{IsUnlistedStepSaid};
 
 use c_calls::flat::FlatStep;
-use c_calls::step_calls;
-use c_calls::stepping;
+use c_calls::{step_calls, stepping, unlisted_step};
 use std::alloc::Global;
 
 /// Writes the code with which the instruction at the start of some bytes, whose address is `ip`, is stepped at another place: its image at `place`, which
@@ -62,4 +62,25 @@ pub extern "C" fn feddurzai_step_call(
     ensures { IsStepCall bits ip bytes.now place out.old out.new report.new result }
 {
     step_calls::step_call(alloc, bits, ip, bytes, place, out, report)
+}
+
+/// Writes the code with which the instruction at the start of some bytes, whose address is `ip`, is stepped at another place, if the opcode table leaves it
+/// out: its bytes at `place`, which refer to what they referred to, and a near jump back to the address after it. It returns the number of bytes, 4 to 20.
+///
+/// `report` receives that number, the length of the instruction, which is also the offset of the jump back and that from which on it has happened, also if the
+/// buffer is too small; or the address of the refusal. The buffer is unchanged after the bytes, and after a refusal: `Mode`; `TooShort` if the bytes, fewer than
+/// 15, end inside an encoding that is measured; `Invalid` if they begin with no such encoding, or with an instruction of the table; `Wraps` if the code would
+/// end past the address space, with that end modulo 2 to the 64; `TooFar` if the instruction or the jump back does not reach its address, with that; `Room`.
+#[unsafe(no_mangle)]
+pub extern "C" fn feddurzai_step_unlisted(
+    bits: u32,
+    ip: u64,
+    bytes: &[u8],
+    place: u64,
+    out: &mut [u8],
+    report: &mut FlatStep,
+) -> i32
+    ensures { IsUnlistedStepSaid bits ip bytes.now place out.old out.new report.new result }
+{
+    unlisted_step::step_unlisted(bits, ip, bytes, place, out, report)
 }

@@ -8,6 +8,7 @@ use Rattle.flow_graph.specs.Control.{CodeBytes, IsSuccessor}
 use Rattle.flow_graph.specs.Reached.{Reaches, start, step, Follows, LeaderOf, itself, carried}
 use Rattle.flow_graph.specs.ReachedFrom.{ReachesFrom, start as start_from, step as step_from, FollowsFrom, LeaderFrom, itself as itself_from, carried as carried_from}
 use Rattle.flow_graph.specs.Graphs.{Graph, IsFlowGraph, IsFlowGraphFrom}
+use Rattle.flow_graph.proofs.OneReading.{OneAnswerFacts}
 use Rattle.flow_graph.proofs.Unique.{least_from, one_leader_from, one_graph_from}
 
 abbrev first : List ℕ
@@ -111,6 +112,6 @@ pub one_leader : (code : CodeBytes) (q leader other : ℕ) → LeaderOf code lea
 one_leader code q leader other h k = one_leader_from code first q leader other (leader_to code leader q h) (leader_to code other q k)
 
 -- **some code has one graph**
-pub one_graph : OneReadingFacts → (code : CodeBytes) (graph other : Graph) → IsFlowGraph code graph → IsFlowGraph code other → graph ≡ other
-one_graph one code graph other a b =
-    one_graph_from one code first first graph other (λ q. (λ has. has, λ has. has)) (graph_to code graph a) (graph_to code other b)
+pub one_graph : OneReadingFacts → OneAnswerFacts → (code : CodeBytes) (graph other : Graph) → IsFlowGraph code graph → IsFlowGraph code other → graph ≡ other
+one_graph one same code graph other a b =
+    one_graph_from one same code first first graph other (λ q. (λ has. has, λ has. has)) (graph_to code graph a) (graph_to code other b)

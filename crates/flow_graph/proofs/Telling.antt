@@ -7,13 +7,19 @@ use Rattle.decoder.specs.declared.DecodeError.TheVariants.{Invalid as InvalidErr
 use Rattle.decoder.specs.Answer.{reading_of}
 use Rattle.decoder.specs.OneReading.{OneReadingFacts}
 use Rattle.x86_values.specs.declared.Decoded.{Decoded}
-use Rattle.row_relation.specs.Spells.{Read}
+use Rattle.x86_values.specs.declared.Bits.{Bits}
+use Rattle.row_relation.specs.Spells.{Reading, Read, TooShort, Invalid}
 use Rattle.operand_info.specs.ByCode.{flow_of}
 use Rattle.operand_info.specs.declared.columns.Flow.{Flow}
-use Rattle.flow_graph.specs.Control.{CodeBytes}
+use Rattle.unlisted.specs.declared.Shape.{Shape}
+use Rattle.unlisted.specs.declared.MeasureError.{MeasureError}
+use Rattle.unlisted.specs.Measured.{IsMeasured}
+use Rattle.flow_graph.specs.declared.exits.Follow.{Follow}
+use Rattle.flow_graph.specs.declared.exits.Follow.TheVariants.{Listed, Unlisted}
+use Rattle.flow_graph.specs.Control.{CodeBytes, code_bytes, code_bytes_with, IsReadIn}
 use Rattle.flow_graph.specs.Walks.{IsTreated, IsWalk, Extends}
-use Rattle.flow_graph.proofs.OneReading.{reading_unique}
-use Rattle.flow_graph.specs.Told.{told_of, Tells, next_by_default, told_at, AreTold, MarkedAreTold, AreFlowsOf}
+use Rattle.flow_graph.proofs.OneReading.{OneAnswerFacts, reading_unique}
+use Rattle.flow_graph.specs.Told.{told_of, told_measured, TellsMeasured, IsToldUnlisted, IsTold, Tells, next_by_default, told_at, AreTold, MarkedAreTold, AreFlowsOf}
 
 -- what is listed beside each start
 abbrev pub Flows : Type 0
@@ -30,10 +36,48 @@ unfolding told_of
 error_told InvalidError = refl
 error_told TooShortError = refl
 
+-- an instruction that is read is told by its flow, whatever else is followed
+pub read_told : (follow : Follow) (code : CodeBytes) (p : ℕ) (d : Decoded) (told : Result Flow DecodeError) → told ≡ told_of (Read d) → IsTold follow code p (Read d) told
+read_told Listed code p d told e = e
+read_told Unlisted code p d told e = e
+
+-- where the table reads nothing, what is measured is told
+measured_told : (code : CodeBytes) (p : ℕ) (e : DecodeError) (told : Result Flow DecodeError) → TellsMeasured code p (Err e) told → IsToldUnlisted code p (reading_of (Err e)) told
+unfolding told_of
+measured_told code p InvalidError told h = h
+measured_told code p TooShortError told h = h
+
+-- **what is measured is told of it**
+pub tells_measured : (bits : Bits) (base : ℕ) (bytes : List ℕ) (p : ℕ) (e : DecodeError) (answer : Result Shape MeasureError) (told : Result Flow DecodeError) →
+    IsReadIn (code_bytes bits base bytes) p (reading_of (Err e)) → IsMeasured bits (drop p bytes) answer → told ≡ told_measured (Err e) answer →
+    Tells (code_bytes_with Unlisted bits base bytes) p told
+tells_measured bits base bytes p e answer told reads measured is = record {
+  reading = reading_of (Err e);
+  reads = reads;
+  is = measured_told (code_bytes_with Unlisted bits base bytes) p e told (record { answer = answer; measured = measured; is = is });
+}
+
+-- **where nothing else is followed, the error is told**
+pub tells_error : (bits : Bits) (base : ℕ) (bytes : List ℕ) (p : ℕ) (e : DecodeError) (told : Result Flow DecodeError) →
+    IsReadIn (code_bytes bits base bytes) p (reading_of (Err e)) → told ≡ Err e → Tells (code_bytes bits base bytes) p told
+tells_error bits base bytes p e told reads is = record { reading = reading_of (Err e); reads = reads; is = is ∙ error_told e }
+
+measured_same : OneAnswerFacts → (code : CodeBytes) (p : ℕ) (unread a b : Result Flow DecodeError) → TellsMeasured code p unread a → TellsMeasured code p unread b → a ≡ b
+measured_same same code p unread a b t u =
+    t.is ∙ (ap (told_measured unread) (same code.bits (drop p code.bytes) t.answer u.answer t.measured u.measured) ∙ sym u.is)
+
+is_told_same : OneAnswerFacts → (follow : Follow) (code : CodeBytes) (p : ℕ) (reading : Reading) (a b : Result Flow DecodeError) → IsTold follow code p reading a →
+    IsTold follow code p reading b → a ≡ b
+is_told_same same Listed code p reading a b t u = t ∙ sym u
+is_told_same same Unlisted code p (Read d) a b t u = t ∙ sym u
+is_told_same same Unlisted code p TooShort a b t u = measured_same same code p (told_of TooShort) a b t u
+is_told_same same Unlisted code p Invalid a b t u = measured_same same code p (told_of Invalid) a b t u
+
 -- one thing alone is told of an offset
-pub told_same : OneReadingFacts → (code : CodeBytes) (p : ℕ) (a b : Result Flow DecodeError) → Tells code p a → Tells code p b → a ≡ b
-told_same one code p a b t u =
-    t.is ∙ (ap told_of (reading_unique one code.bits code.base p (drop p code.bytes) t.reading u.reading t.reads u.reads) ∙ sym u.is)
+pub told_same : OneReadingFacts → OneAnswerFacts → (code : CodeBytes) (p : ℕ) (a b : Result Flow DecodeError) → Tells code p a → Tells code p b → a ≡ b
+told_same one same code p a b t u =
+    let e = reading_unique one code.bits code.base p (drop p code.bytes) t.reading u.reading t.reads u.reads in
+    is_told_same same code.follow code p u.reading a b (subst (λ (r : Reading). IsTold code.follow code p r a) e t.is) u.is
 
 -- nothing was told before the first turn
 pub told_start : (code : CodeBytes) (order : List ℕ) (flows : Flows) (count : ℕ) → count ≡ length code.bytes → length flows ≡ count → AreTold code order 0 flows

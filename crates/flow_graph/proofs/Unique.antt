@@ -10,6 +10,7 @@ use Rattle.flow_graph.specs.Control.{CodeBytes, IsSuccessor}
 use Rattle.flow_graph.specs.ReachedFrom.{ReachesFrom, start, step, FollowsFrom, IsLeaderFrom, LeaderFrom, itself, carried}
 use Rattle.flow_graph.specs.Told.{Tells, next_by_default, told_at}
 use Rattle.decoder.specs.OneReading.{OneReadingFacts}
+use Rattle.flow_graph.proofs.OneReading.{OneAnswerFacts}
 use Rattle.flow_graph.proofs.Telling.{Flows, told_same}
 use Rattle.flow_graph.specs.Graphs.{Graph, IsFlowGraphFrom}
 
@@ -162,9 +163,9 @@ starts_within : (code : CodeBytes) (entries : List ℕ) (g h : Graph) → IsFlow
 starts_within code entries g h a b n has =
     let at = place_of g.starts n has in b.complete n (subst (ReachesFrom code entries) at.2 (a.reached at.0 0 at.1))
 
-same_graph : OneReadingFacts → (code : CodeBytes) (entries : List ℕ) (graph other : Graph) → IsFlowGraphFrom code entries graph → IsFlowGraphFrom code entries other →
+same_graph : OneReadingFacts → OneAnswerFacts → (code : CodeBytes) (entries : List ℕ) (graph other : Graph) → IsFlowGraphFrom code entries graph → IsFlowGraphFrom code entries other →
     graph ≡ other
-same_graph one code entries g h a b =
+same_graph one same code entries g h a b =
     let starts : g.starts ≡ h.starts =
     same_numbers g.starts h.starts a.ascending b.ascending (starts_within code entries g h a b) (starts_within code entries h g b a) in
     let len : length g.starts ≡ length h.starts = ap length starts in
@@ -180,7 +181,7 @@ same_graph one code entries g h a b =
     (λ k l.
     let in_g : k < length g.starts = omega (arith, a.flows_len) in
     let in_h : k < length h.starts = omega (arith, len) in
-    told_same one code (get_or g.starts k 0) (told_at g.flows k) (told_at h.flows k) (a.told k in_g)
+    told_same one same code (get_or g.starts k 0) (told_at g.flows k) (told_at h.flows k) (a.told k in_g)
     (subst (λ xs. Tells code (get_or xs k 0) (told_at h.flows k)) (sym starts) (b.told k in_h))) in
     ap (λ xs. make xs g.leaders g.flows) starts ∙ (ap (λ xs. make h.starts xs g.flows) leaders ∙ ap (make h.starts h.leaders) flows)
   where
@@ -188,7 +189,7 @@ same_graph one code entries g h a b =
     make s l f = record { starts = s; leaders = l; flows = f }
 
 -- **some code has one graph from the same first offsets**
-pub one_graph_from : OneReadingFacts → (code : CodeBytes) (entries others : List ℕ) (graph other : Graph) → ((q : ℕ) → Contains entries q ↔ Contains others q) →
+pub one_graph_from : OneReadingFacts → OneAnswerFacts → (code : CodeBytes) (entries others : List ℕ) (graph other : Graph) → ((q : ℕ) → Contains entries q ↔ Contains others q) →
     IsFlowGraphFrom code entries graph → IsFlowGraphFrom code others other → graph ≡ other
-one_graph_from one code entries others g h same a b =
-    same_graph one code entries g h a (graph_by code others entries (λ q has. (same q).1 has) (λ q has. (same q).0 has) h b)
+one_graph_from one answers code entries others g h same a b =
+    same_graph one answers code entries g h a (graph_by code others entries (λ q has. (same q).1 has) (λ q has. (same q).0 has) h b)

@@ -1,24 +1,37 @@
 -- Where control goes behind an instruction of some code.
-use Rattle.std.specs.Prelude.{◌≡◌, ℕ, ◌+◌, ◌<◌, Bool, true, false, List, length, drop, Some, IsTrue, ◌⊎◌}
+use Rattle.std.specs.Prelude.{◌≡◌, ℕ, ◌+◌, ◌<◌, Bool, true, false, List, length, drop, Option, Some, None, IsTrue, ◌⊎◌}
 use Rattle.x86_values.specs.declared.Bits.{Bits}
 use Rattle.x86_values.specs.declared.Decoded.{Decoded}
+use Rattle.x86_values.specs.Wrapping.{modulo_width}
 use Rattle.row_relation.specs.Spells.{Reading, Read, TooShort, Invalid}
 use Rattle.plain_spelling.specs.Values.{distance}
 use Rattle.opcode_rows.specs.Sweep.{IsReadAt}
 use Rattle.operand_info.specs.declared.columns.Flow.{Flow}
-use Rattle.operand_info.specs.declared.columns.Flow.TheVariants.{UnconditionalBranch, IndirectBranch, ConditionalBranch, Return, Call, Exception}
+use Rattle.operand_info.specs.declared.columns.Flow.TheVariants.{Next, UnconditionalBranch, IndirectBranch, ConditionalBranch, Return, Call, Exception}
 use Rattle.operand_info.specs.ByCode.{flow_of}
 use Rattle.operand_info.specs.Operands.{first_value, near_value}
+use Rattle.unlisted.specs.declared.Reference.{Reference}
+use Rattle.unlisted.specs.declared.Reference.TheVariants.{Rip, Eip, Branch}
+use Rattle.unlisted.specs.declared.Relative.{Relative}
+use Rattle.unlisted.specs.declared.Shape.{Shape}
+use Rattle.unlisted.specs.Measured.{IsMeasuredAs, relative_target}
+use Rattle.flow_graph.specs.declared.exits.Follow.{Follow}
+use Rattle.flow_graph.specs.declared.exits.Follow.TheVariants.{Listed, Unlisted}
 
--- the bytes of some code, the address of the first of them, and the mode that they are read in
+-- the bytes of some code, the address of the first of them, the mode that they are read in, and which instructions are followed
 pub record CodeBytes : Type 0 where
   pub bits : Bits
   pub base : ℕ
   pub bytes : List ℕ
+  pub follow : Follow
 
--- some code, made of its mode, the address of its first byte, and its bytes
+-- some code, made of which instructions are followed, its mode, the address of its first byte, and its bytes
+abbrev pub code_bytes_with : Follow → Bits → ℕ → List ℕ → CodeBytes
+code_bytes_with follow bits base bytes = record { bits = bits; base = base; bytes = bytes; follow = follow }
+
+-- some code in which the instructions of the table alone are followed
 abbrev pub code_bytes : Bits → ℕ → List ℕ → CodeBytes
-code_bytes bits base bytes = record { bits = bits; base = base; bytes = bytes }
+code_bytes bits base bytes = code_bytes_with Listed bits base bytes
 
 -- what is read at an offset
 abbrev pub IsReadIn : CodeBytes → ℕ → Reading → Type 0
@@ -59,11 +72,61 @@ pub record GoesToTarget (code : CodeBytes) (d : Decoded) (q : ℕ) : Type 0 wher
 abbrev pub Leads : CodeBytes → ℕ → Decoded → ℕ → Type 0
 Leads code p d q = GoesOn p d q ⊎ GoesToTarget code d q
 
--- control may go to q from what is read at p: where no instruction is read it goes nowhere
+-- ---- instructions without a row
+
+-- an instruction without a row stands at an offset: its format alone gives its shape
+abbrev pub IsMeasuredIn : CodeBytes → ℕ → Shape → Type 0
+IsMeasuredIn code p shape = IsMeasuredAs code.bits (drop p code.bytes) shape
+
+-- what the number of an instruction refers to: XBEGIN goes on, and an aborted transaction continues at its target (XBEGIN)
+abbrev pub reference_flow : Reference → Flow
+reference_flow Branch = ConditionalBranch
+reference_flow Rip = Next
+reference_flow Eip = Next
+
+-- the flow of an instruction without a row, by its number: no other than XBEGIN branches
+unfoldable pub shape_flow : Option Relative → Flow
+shape_flow None = Next
+shape_flow (Some r) = reference_flow r.to
+
+-- the address that the number of an instruction at offset p refers to
+abbrev pub shape_refers : Bits → ℕ → ℕ → Shape → Option ℕ
+shape_refers bits base p shape = relative_target bits (modulo_width bits (base + p)) shape.len shape.relative
+
+-- where it branches, it goes to the offset of that address
+pub record GoesToFallback (code : CodeBytes) (p : ℕ) (shape : Shape) (q : ℕ) : Type 0 where
+  pub flow : IsTrue (goes_to_target (shape_flow shape.relative))
+  pub target : ℕ
+  pub refers : shape_refers code.bits code.base p shape ≡ Some target
+  pub offset : q ≡ code_offset code target
+
+-- control may go to q from an instruction without a row at p: to its end, and from XBEGIN to its target too
+abbrev pub ShapeLeads : CodeBytes → ℕ → Shape → ℕ → Type 0
+ShapeLeads code p shape q = (q ≡ p + shape.len) ⊎ GoesToFallback code p shape q
+
+-- control may go to q from p, at which the table reads nothing: nowhere, unless instructions without a row are followed and one stands there
+abbrev pub UnreadLeads : Follow → CodeBytes → ℕ → ℕ → Type 0
+UnreadLeads Listed code p q = ⊥
+UnreadLeads Unlisted code p q = (shape : Shape) × (IsMeasuredIn code p shape × ShapeLeads code p shape q)
+
+-- q is the end of such an instruction at p
+abbrev pub UnreadEnds : Follow → CodeBytes → ℕ → ℕ → Type 0
+UnreadEnds Listed code p q = ⊥
+UnreadEnds Unlisted code p q = (shape : Shape) × (IsMeasuredIn code p shape × (q ≡ p + shape.len))
+
+-- ---- any offset
+
+-- control may go to q from what is read at p: where no instruction is read it goes nowhere, as long as those of the table alone are followed
 abbrev pub ReadingLeads : CodeBytes → ℕ → Reading → ℕ → Type 0
 ReadingLeads code p (Read d) q = Leads code p d q
-ReadingLeads code p TooShort q = ⊥
-ReadingLeads code p Invalid q = ⊥
+ReadingLeads code p TooShort q = UnreadLeads code.follow code p q
+ReadingLeads code p Invalid q = UnreadLeads code.follow code p q
+
+-- q is the end of what is read at p
+abbrev pub ReadingEnds : CodeBytes → ℕ → Reading → ℕ → Type 0
+ReadingEnds code p (Read d) q = q ≡ p + d.len
+ReadingEnds code p TooShort q = UnreadEnds code.follow code p q
+ReadingEnds code p Invalid q = UnreadEnds code.follow code p q
 
 -- the successors of p: the offsets of bytes to which control may go from the instruction at p
 pub record IsSuccessor (code : CodeBytes) (p q : ℕ) : Type 0 where
@@ -74,6 +137,6 @@ pub record IsSuccessor (code : CodeBytes) (p q : ℕ) : Type 0 where
 
 -- q is the end of the instruction at p
 pub record EndsAt (code : CodeBytes) (p q : ℕ) : Type 0 where
-  pub decoded : Decoded
-  pub reads : IsReadIn code p (Read decoded)
-  pub end : q ≡ p + decoded.len
+  pub reading : Reading
+  pub reads : IsReadIn code p reading
+  pub end : ReadingEnds code p reading q

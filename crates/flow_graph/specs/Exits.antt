@@ -1,5 +1,5 @@
 -- The successors of an offset, apart by whether they are the end of the instruction.
-use Rattle.std.specs.Prelude.{◌≡◌, ℕ, ◌+◌, ◌<◌, Bool, false, not, ◌&&◌, ◌||◌, ◌==◌, nat_lt, Option, Some, None, ◌⊎◌, length, if◌then◌else◌}
+use Rattle.std.specs.Prelude.{◌≡◌, ℕ, ◌+◌, ◌<◌, Bool, true, false, not, ◌&&◌, ◌||◌, ◌==◌, nat_lt, Option, Some, None, ◌⊎◌, length, if◌then◌else◌}
 use Rattle.std.specs.Option.{option_map}
 use Rattle.x86_values.specs.declared.Bits.{Bits}
 use Rattle.x86_values.specs.declared.Instr.{Instr}
@@ -9,7 +9,8 @@ use Rattle.plain_spelling.specs.Values.{distance}
 use Rattle.operand_info.specs.declared.columns.Flow.{Flow}
 use Rattle.operand_info.specs.ByCode.{flow_of}
 use Rattle.operand_info.specs.Operands.{first_value, near_value}
-use Rattle.flow_graph.specs.Control.{CodeBytes, goes_on, goes_to_target, IsSuccessor, EndsAt}
+use Rattle.unlisted.specs.declared.Shape.{Shape}
+use Rattle.flow_graph.specs.Control.{CodeBytes, goes_on, goes_to_target, shape_flow, shape_refers, IsSuccessor, EndsAt}
 
 -- how far the target to which control may go stands behind the first byte
 unfoldable pub target_offset : Bits → ℕ → Flow → Instr → Option ℕ
@@ -38,6 +39,24 @@ exits_of code p d =
       next = next_exit (goes_on flow) target (p + d.len) d.len (length code.bytes);
       target = target_exit target (p + d.len) (length code.bytes);
     }
+
+-- how far the target of an instruction without a row at p, to which control may go, stands behind the first byte
+unfoldable pub shape_target : Bits → ℕ → ℕ → Shape → Option ℕ
+shape_target bits base p shape =
+    if goes_to_target (shape_flow shape.relative) then option_map (distance bits base) (shape_refers bits base p shape) else None
+
+-- the exits of an instruction without a row at p
+abbrev pub exits_of_shape : CodeBytes → ℕ → Shape → Exits
+exits_of_shape code p shape =
+    let target = shape_target code.bits code.base p shape in
+    record {
+      next = next_exit true target (p + shape.len) shape.len (length code.bytes);
+      target = target_exit target (p + shape.len) (length code.bytes);
+    }
+
+-- no exits
+abbrev pub no_exits : Exits
+no_exits = record { next = 0; target = None }
 
 -- q is one of the exits of an instruction at p
 abbrev pub IsExit : ℕ → Exits → ℕ → Type 0

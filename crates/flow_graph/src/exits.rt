@@ -1,9 +1,10 @@
 //! Where control goes after an instruction.
 
-ghost use Rattle.std.specs.Prelude.{◌≡◌, ◌+◌, ◌<◌, ◌≤◌, length, Some, IsTrue, IfSome};
+ghost use Rattle.std.specs.Prelude.{◌≡◌, ◌+◌, ◌<◌, ◌≤◌, length, Some, Err, IsTrue, IfSome};
+ghost use Rattle.decoder.specs.Answer.{reading_of};
 ghost use Rattle.opcode_rows.specs.Allowed.{is_well_formed};
 ghost use Rattle.flow_graph.specs.Control as control;
-ghost use Rattle.flow_graph.specs.Control.{code_bytes};
+ghost use Rattle.flow_graph.specs.Control.{code_bytes, code_bytes_with, IsReadIn};
 ghost use Rattle.flow_graph.specs.Exits as spec;
 ghost use Rattle.flow_graph.specs.Exits.{AreExits};
 ghost use Rattle.flow_graph.specs.Told.{Tells};
@@ -14,7 +15,19 @@ use decoder::{DecodeError, read_at};
 use operand_info::laws::well_formed_codes_are_in_the_table;
 use operand_info::{Flow, flow_of, near_target};
 use plain_spelling::numbers::distance;
-use x86_values::{Bits, Decoded, Instr};
+use unlisted::laws::answers_are_unique;
+use unlisted::{Reference, Relative, Shape, measure};
+use x86_values::{Bits, Decoded, Instr, wrap};
+
+/// Which instructions control is followed through.
+#[derive(Clone, Copy, PartialEq, Eq, Debug)]
+pub enum Follow {
+    /// Those of the table. Control goes nowhere from a byte at which none of them starts.
+    Listed,
+    /// Those of the table, and those without a row as far as [`measure`] returns their shape. Control goes to the end of such an instruction, and from
+    /// XBEGIN also to its target, where an aborted transaction continues.
+    Unlisted,
+}
 
 /// Where control goes after an instruction, as far as the code has bytes.
 #[derive(Clone, Copy)]
@@ -129,12 +142,117 @@ fn exits_of(
     }
 }
 
-/// Returns what starts at an offset, and where control goes from it.
-pub(crate) fn stop_at(bits: Bits, base: u64, bytes: &[u8], offset: usize) -> Stop
+/// The flow of an instruction without a row, by its relative number. XBEGIN continues at its end, or after an abort at its target.
+#[tactic(auto, unfolding(crate::specs::Control::shape_flow))]
+fn shape_flow(relative: Option<Relative>) -> Flow
+    ensures { result ≡ control.shape_flow relative }
+{
+    match relative {
+        Some(relative) => match relative.to {
+            Reference::Branch => Flow::ConditionalBranch,
+            Reference::Rip | Reference::Eip => Flow::Next,
+        },
+        None => Flow::Next,
+    }
+}
+
+/// How far the target of an instruction without a row, to which control may go, follows the first byte.
+#[tactic(auto, unfolding(crate::specs::Exits::shape_target))]
+fn shape_target(bits: Bits, base: u64, offset: usize, shape: &Shape) -> Option<u64>
+    ensures { result ≡ spec.shape_target bits base offset shape.now }
+{
+    if goes_to_target(shape_flow(shape.relative)) {
+        let ip = wrap(bits, u128::from(base) + offset as u128);
+        match unlisted::target(bits, ip, shape) {
+            Some(target) => Some(distance(bits, base, target)),
+            None => None,
+        }
+    } else {
+        None
+    }
+}
+
+/// Returns where control goes from an instruction without a row at an offset.
+fn exits_of_shape(bits: Bits, base: u64, bytes: &[u8], offset: usize, shape: &Shape) -> Exits
     requires inside { offset < length bytes.now }
     requires few { length bytes.now ≤ 16777216 }
-    ensures told { Tells (code_bytes bits base bytes.now) offset result.flow }
-    ensures exits { AreExits (code_bytes bits base bytes.now) offset result.exits }
+    ensures value { result ≡ spec.exits_of_shape (code_bytes bits base bytes.now) offset shape.now }
+    ensures short { result.next ≤ shape.now.len }
+    ensures inside { IfSome result.target (λ q. q < length bytes.now) }
+{
+    let end = offset + usize::from(shape.len);
+    let goal = shape_target(bits, base, offset, shape);
+    Exits {
+        next: next_exit(true, goal, end, shape.len, bytes.len()),
+        target: target_exit(goal, end, bytes.len()),
+    }
+}
+
+/// What is read at an offset from which control goes nowhere.
+fn dead_end(error: DecodeError) -> Stop
+    ensures flow { result.flow ≡ Err error }
+    ensures exits { result.exits ≡ spec.no_exits }
+{
+    Stop {
+        flow: Err(error),
+        exits: Exits {
+            next: 0,
+            target: None,
+        },
+    }
+}
+
+/// Returns what stands at an offset at which the table reads nothing, where instructions without a row are followed.
+fn measured_stop(bits: Bits, base: u64, bytes: &[u8], offset: usize, error: DecodeError) -> Stop
+    requires inside { offset < length bytes.now }
+    requires few { length bytes.now ≤ 16777216 }
+    requires reads { IsReadIn (code_bytes bits base bytes.now) offset (reading_of (Err error)) }
+    ensures told { Tells (code_bytes_with Follow.Unlisted bits base bytes.now) offset result.flow }
+    ensures exits { AreExits (code_bytes_with Follow.Unlisted bits base bytes.now) offset result.exits }
+    ensures short { result.exits.next ≤ 15 }
+    ensures inside { IfSome result.exits.target (λ q. q < length bytes.now) }
+{
+    bytes_have_one_reading();
+    answers_are_unique();
+    match measure(bits, &bytes[offset..]) {
+        Ok(shape) => Stop {
+            flow: Ok(shape_flow(shape.relative)),
+            exits: exits_of_shape(bits, base, bytes, offset, &shape),
+        },
+        Err(_) => dead_end(error),
+    }
+}
+
+/// Returns what stands at an offset at which the table reads nothing.
+fn unread_stop(
+    follow: Follow,
+    bits: Bits,
+    base: u64,
+    bytes: &[u8],
+    offset: usize,
+    error: DecodeError,
+) -> Stop
+    requires inside { offset < length bytes.now }
+    requires few { length bytes.now ≤ 16777216 }
+    requires reads { IsReadIn (code_bytes bits base bytes.now) offset (reading_of (Err error)) }
+    ensures told { Tells (code_bytes_with follow bits base bytes.now) offset result.flow }
+    ensures exits { AreExits (code_bytes_with follow bits base bytes.now) offset result.exits }
+    ensures short { result.exits.next ≤ 15 }
+    ensures inside { IfSome result.exits.target (λ q. q < length bytes.now) }
+{
+    bytes_have_one_reading();
+    match follow {
+        Follow::Listed => dead_end(error),
+        Follow::Unlisted => measured_stop(bits, base, bytes, offset, error),
+    }
+}
+
+/// Returns what starts at an offset, and where control goes from it.
+pub(crate) fn stop_at(follow: Follow, bits: Bits, base: u64, bytes: &[u8], offset: usize) -> Stop
+    requires inside { offset < length bytes.now }
+    requires few { length bytes.now ≤ 16777216 }
+    ensures told { Tells (code_bytes_with follow bits base bytes.now) offset result.flow }
+    ensures exits { AreExits (code_bytes_with follow bits base bytes.now) offset result.exits }
     ensures short { result.exits.next ≤ 15 }
     ensures inside { IfSome result.exits.target (λ q. q < length bytes.now) }
 {
@@ -148,13 +266,7 @@ pub(crate) fn stop_at(bits: Bits, base: u64, bytes: &[u8], offset: usize) -> Sto
                 exits: exits_of(bits, base, bytes, offset, flow, &decoded),
             }
         }
-        Err(error) => Stop {
-            flow: Err(error),
-            exits: Exits {
-                next: 0,
-                target: None,
-            },
-        },
+        Err(error) => unread_stop(follow, bits, base, bytes, offset, error),
     }
 }
 
@@ -169,5 +281,5 @@ pub fn exits_at(bits: Bits, base: u64, bytes: &[u8], offset: usize) -> Exits
     ensures short { result.next ≤ 15 }
     ensures inside { IfSome result.target (λ q. q < length bytes.now) }
 {
-    stop_at(bits, base, bytes, offset).exits
+    stop_at(Follow::Listed, bits, base, bytes, offset).exits
 }

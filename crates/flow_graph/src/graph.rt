@@ -2,10 +2,11 @@
 
 ghost use Rattle.std.specs.Prelude.{◌≤◌, length, IsTrue, IfOk};
 ghost use Rattle.prefixes.specs.Answer.{is_mode, mode_of};
-ghost use Rattle.flow_graph.specs.Control.{code_bytes};
+ghost use Rattle.flow_graph.specs.Control.{code_bytes, code_bytes_with};
 ghost use Rattle.flow_graph.specs.Graphs.{IsFlowGraph, IsFlowGraphFrom};
 
 use crate::blocks::{Blocks, blocks_of};
+use crate::exits::Follow;
 use crate::laws::one_entry_is_the_first_byte;
 use crate::walk::walk_all;
 use decoder::DecodeError;
@@ -34,7 +35,8 @@ impl From<AllocError> for FlowError {
 /// flow of its instruction.
 ///
 /// From an instruction control goes to its end, unless it is a jump, a return or an undefined instruction, and to its near target if it has one, as
-/// far as the code has bytes. From a byte that starts no instruction it goes nowhere.
+/// far as the code has bytes. From a byte that starts no instruction it goes nowhere. [`flow_graph_following`] can also go through instructions without
+/// a row.
 ///
 /// A reached offset is a follower if it is no entry, exactly one reached instruction leads to it, that instruction ends there, and control goes
 /// nowhere else from it. The other reached offsets are leaders. A basic block is a leader and the followers after it.
@@ -126,7 +128,25 @@ pub fn flow_graph_from(
     requires { length bytes.now ≤ 16777216 }
     ensures { IfOk result (λ graph. IsFlowGraphFrom (code_bytes bits base bytes.now) entries.now graph) }
 {
-    let walk = walk_all(alloc, bits, base, bytes, entries)?;
+    flow_graph_following(alloc, Follow::Listed, bits, base, bytes, entries)
+}
+
+/// Returns what control reaches from several entry offsets, like [`flow_graph_from`], through the instructions that `follow` names.
+///
+/// With [`Follow::Unlisted`] control also goes through instructions without a row (`unlisted::measure`): to the end of each, and from XBEGIN also to its
+/// target. The flow of XBEGIN is `ConditionalBranch`, that of every other such instruction `Next`. The only error is `Memory`.
+pub fn flow_graph_following(
+    alloc: Global,
+    follow: Follow,
+    bits: Bits,
+    base: u64,
+    bytes: &[u8],
+    entries: &[u32],
+) -> Result<FlowGraph, FlowError>
+    requires { length bytes.now ≤ 16777216 }
+    ensures { IfOk result (λ graph. IsFlowGraphFrom (code_bytes_with follow bits base bytes.now) entries.now graph) }
+{
+    let walk = walk_all(alloc, follow, bits, base, bytes, entries)?;
     let blocks = blocks_of(alloc, &walk.marks, &walk.flows)?;
     Ok(FlowGraph { blocks })
 }

@@ -8,6 +8,7 @@ ghost use Rattle.flow_graph.specs.ReachedFrom.{ReachesFrom};
 ghost use Rattle.flow_graph.specs.Graphs.{Graph, IsFlowGraph, IsFlowGraphFrom};
 
 use decoder::reading_laws::bytes_have_one_reading;
+use unlisted::laws::answers_are_unique;
 
 /// Every set that contains the first byte, and with each offset its successors, contains the reached offsets.
 pub fn reached_is_least()
@@ -26,6 +27,7 @@ pub fn graphs_are_unique()
     ensures { (code : CodeBytes) (graph other : Graph) → IsFlowGraph code graph → IsFlowGraph code other → graph ≡ other }
 {
     bytes_have_one_reading();
+    answers_are_unique();
 }
 
 /// Every set that contains the entries within the code, and with each offset its successors, contains what is reached from them.
@@ -43,6 +45,7 @@ pub fn graphs_from_are_unique()
         → IsFlowGraphFrom code entries graph → IsFlowGraphFrom code others other → graph ≡ other }
 {
     bytes_have_one_reading();
+    answers_are_unique();
 }
 
 /// The graph of some code is the graph from its first byte as the only entry.

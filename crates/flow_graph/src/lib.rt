@@ -7,5 +7,7 @@ mod graph;
 pub mod laws;
 mod walk;
 
-pub use exits::{Exits, exits_at, goes_on};
-pub use graph::{FlowError, FlowGraph, flow_graph, flow_graph_from, flow_graph_in};
+pub use exits::{Exits, Follow, exits_at, goes_on};
+pub use graph::{
+    FlowError, FlowGraph, flow_graph, flow_graph_following, flow_graph_from, flow_graph_in,
+};

@@ -1,13 +1,13 @@
 //! The walk along control from the first offsets, which marks what it reaches.
 
 ghost use Rattle.std.specs.Prelude.{◌≡◌, ◌+◌, ◌<◌, ◌≤◌, ℕ, List, length, slice_index, IfOk, OnOk};
-ghost use Rattle.flow_graph.specs.Control.{code_bytes};
+ghost use Rattle.flow_graph.specs.Control.{code_bytes_with};
 ghost use Rattle.flow_graph.specs.Marks.{marks_after, order_after, AreMarks};
 ghost use Rattle.flow_graph.specs.Told.{AreTold, MarkedAreTold};
 ghost use Rattle.flow_graph.specs.Walks as spec;
 ghost use Rattle.flow_graph.specs.Walks.{entered_marks, entered_order, next_marks, next_order, IsStarted, IsTreated, IsWalk};
 
-use crate::exits::{Exits, stop_at};
+use crate::exits::{Exits, Follow, stop_at};
 use decoder::DecodeError;
 use operand_info::Flow;
 use std::alloc::{AllocError, Global};
@@ -100,21 +100,28 @@ impl Walk {
     }
 
     /// Goes along all edges from the offset whose turn it is.
-    fn follow(&mut self, bits: Bits, base: u64, bytes: &[u8], turn: usize) -> Result<(), AllocError>
+    fn follow(
+        &mut self,
+        follow: Follow,
+        bits: Bits,
+        base: u64,
+        bytes: &[u8],
+        turn: usize,
+    ) -> Result<(), AllocError>
         requires few { length bytes.now ≤ 16777216 }
         requires len { length self.old.marks.items ≡ length bytes.now }
-        requires told { AreTold (code_bytes bits base bytes.now) self.old.order.items turn self.old.flows.items }
+        requires told { AreTold (code_bytes_with follow bits base bytes.now) self.old.order.items turn self.old.flows.items }
         requires turn { turn < length self.old.order.items }
         requires inside { slice_index self.old.order.items turn < length bytes.now }
         ensures walk { OnOk result ((entries : List ℕ)
-            → IsWalk (code_bytes bits base bytes.now) entries self.old.marks.items self.old.order.items
-            (IsTreated (code_bytes bits base bytes.now) self.old.order.items turn)
-            → IsWalk (code_bytes bits base bytes.now) entries self.new.marks.items self.new.order.items
-            (IsTreated (code_bytes bits base bytes.now) self.new.order.items (turn + 1))) }
-        ensures told { OnOk result (AreTold (code_bytes bits base bytes.now) self.new.order.items (turn + 1) self.new.flows.items) }
+            → IsWalk (code_bytes_with follow bits base bytes.now) entries self.old.marks.items self.old.order.items
+            (IsTreated (code_bytes_with follow bits base bytes.now) self.old.order.items turn)
+            → IsWalk (code_bytes_with follow bits base bytes.now) entries self.new.marks.items self.new.order.items
+            (IsTreated (code_bytes_with follow bits base bytes.now) self.new.order.items (turn + 1))) }
+        ensures told { OnOk result (AreTold (code_bytes_with follow bits base bytes.now) self.new.order.items (turn + 1) self.new.flows.items) }
     {
         let offset = self.order[turn] as usize;
-        let stop = stop_at(bits, base, bytes, offset);
+        let stop = stop_at(follow, bits, base, bytes, offset);
         self.flows[offset] = stop.flow;
         self.go_on(offset, stop.exits)?;
         if let Some(target) = stop.exits.target {
@@ -127,19 +134,20 @@ impl Walk {
 /// Marks what control reaches from the first offsets.
 pub(crate) fn walk_all(
     alloc: Global,
+    follow: Follow,
     bits: Bits,
     base: u64,
     bytes: &[u8],
     entries: &[u32],
 ) -> Result<Walk, AllocError>
     requires { length bytes.now ≤ 16777216 }
-    ensures marks { IfOk result (λ walk. AreMarks (code_bytes bits base bytes.now) entries.now walk.marks.items) }
-    ensures told { IfOk result (λ walk. MarkedAreTold (code_bytes bits base bytes.now) walk.marks.items walk.flows.items) }
+    ensures marks { IfOk result (λ walk. AreMarks (code_bytes_with follow bits base bytes.now) entries.now walk.marks.items) }
+    ensures told { IfOk result (λ walk. MarkedAreTold (code_bytes_with follow bits base bytes.now) walk.marks.items walk.flows.items) }
 {
     let mut walk = Walk::start(alloc, bytes.len(), entries)?;
     let mut turn = 0;
     'turns: while turn < walk.order.len() {
-        walk.follow(bits, base, bytes, turn)?;
+        walk.follow(follow, bits, base, bytes, turn)?;
         turn += 1;
     }
     Ok(walk)

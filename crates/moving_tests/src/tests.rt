@@ -13,3 +13,4 @@ mod sight_tests;
 mod size_tests;
 mod slot_model_tests;
 mod slot_tests;
+mod unlisted_tests;

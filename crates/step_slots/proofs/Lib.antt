@@ -6,3 +6,5 @@ pub mod Kept
 pub mod Slotted
 pub mod Done
 pub mod Called
+pub mod UnlistedSteps
+pub mod NumberAt

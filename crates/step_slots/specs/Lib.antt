@@ -1,5 +1,6 @@
 pub mod Block
 pub mod Standing
+pub mod UnlistedStep
 pub mod Done
 pub mod State
 pub mod Stepping

@@ -19,7 +19,7 @@ use x86_values::{Bits, Code, Instr, Operand, Rep, wrap};
 
 /// A JMP with an offset of the mode's own operand size.
 #[tactic(auto, unfolding(crate::specs::Block::jump_to, move_goals::specs::BranchForms::Images::branch_to))]
-fn jump_to(bits: Bits, target: u64) -> Instr
+pub(crate) fn jump_to(bits: Bits, target: u64) -> Instr
     ensures { result ≡ spec.jump_to bits target }
 {
     let none = Operand::Absent;

@@ -11,6 +11,7 @@ mod laws_below;
 mod refusals;
 mod slots;
 mod standing;
+mod unlisted_step;
 
 pub use block_encoder::Placed;
 pub use calling::{CallError, pushed_len, step_call_at};
@@ -19,3 +20,4 @@ pub use commands::{StepCommand, StepReply, replay};
 pub use refusals::StepError;
 pub use slots::{StepSlot, StepSlots};
 pub use standing::{StandError, done_len, step_at, step_len};
+pub use unlisted_step::{UnlistedStep, UnlistedStepError, step_unlisted_at};

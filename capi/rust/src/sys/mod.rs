@@ -162,6 +162,16 @@ extern "C" {
         room: usize,
         report: *mut StepReport,
     ) -> i32;
+    fn feddurzai_step_unlisted(
+        bits: u32,
+        old_ip: u64,
+        bytes: *const u8,
+        len: usize,
+        place: u64,
+        out: *mut u8,
+        room: usize,
+        report: *mut StepReport,
+    ) -> i32;
     fn feddurzai_flow(
         bits: u32,
         base: u64,
@@ -173,6 +183,20 @@ extern "C" {
         leaders_room: usize,
     ) -> i32;
     fn feddurzai_flow_from(
+        bits: u32,
+        base: u64,
+        bytes: *const u8,
+        len: usize,
+        entries: *const u32,
+        count: usize,
+        starts: *mut u32,
+        room: usize,
+        leaders: *mut u32,
+        leaders_room: usize,
+        kinds: *mut u8,
+        kinds_room: usize,
+    ) -> i32;
+    fn feddurzai_flow_unlisted(
         bits: u32,
         base: u64,
         bytes: *const u8,
@@ -651,6 +675,30 @@ impl Library {
         }
     }
 
+    pub fn step_unlisted(
+        self,
+        bits: u32,
+        old_ip: u64,
+        bytes: &[u8],
+        place: u64,
+        out: &mut [u8],
+        report: &mut StepReport,
+    ) -> i32 {
+        // SAFETY: as for `step`.
+        unsafe {
+            feddurzai_step_unlisted(
+                bits,
+                old_ip,
+                bytes.as_ptr(),
+                bytes.len(),
+                place,
+                out.as_mut_ptr(),
+                out.len(),
+                report,
+            )
+        }
+    }
+
     pub fn flow(self, bits: u32, base: u64, bytes: &[u8], starts: &mut [u32], leaders: &mut [u32]) -> i32 {
         // SAFETY: each slice has as many elements as its length says, and no argument that is written overlaps another.
         unsafe {
@@ -671,6 +719,26 @@ impl Library {
         // SAFETY: each slice has as many elements as its length says, and no argument that is written overlaps another.
         unsafe {
             feddurzai_flow_from(
+                bits,
+                base,
+                bytes.as_ptr(),
+                bytes.len(),
+                entries.as_ptr(),
+                entries.len(),
+                out.starts.as_mut_ptr(),
+                out.starts.len(),
+                out.leaders.as_mut_ptr(),
+                out.leaders.len(),
+                out.kinds.as_mut_ptr(),
+                out.kinds.len(),
+            )
+        }
+    }
+
+    pub fn flow_unlisted(self, bits: u32, base: u64, bytes: &[u8], entries: &[u32], out: FlowOut<'_>) -> i32 {
+        // SAFETY: each slice has as many elements as its length says, and no argument that is written overlaps another.
+        unsafe {
+            feddurzai_flow_unlisted(
                 bits,
                 base,
                 bytes.as_ptr(),

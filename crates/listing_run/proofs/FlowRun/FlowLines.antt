@@ -44,17 +44,18 @@ module _ (f : HeldFacts) where
   }
 
   -- one more line
-  pub progress-step : (code : CodeBytes) (graph : Graph) (k : ℕ) (start held held' : Option (List ℕ)) (before after : List ℕ) → IsFlowGraph code graph →
-      k < length graph.starts → Progress code graph k start held before →
+  pub progress-step : (bits : Bits) (base : ℕ) (bytes : List ℕ) (graph : Graph) (k : ℕ) (start held held' : Option (List ℕ)) (before after : List ℕ) →
+      IsFlowGraph (code_bytes bits base bytes) graph → k < length graph.starts → Progress (code_bytes bits base bytes) graph k start held before →
       Moves held held' before after
-      (flow_line code.bits code.base (get_or graph.starts k 0) (get_or graph.leaders k 0) (flow_word (told_at graph.flows k))) →
-      Progress code graph (k + 1) start held' after
-  progress-step code graph k start held held' before after is lt p w =
+      (flow_line bits base (get_or graph.starts k 0) (get_or graph.leaders k 0) (flow_word (told_at graph.flows k))) →
+      Progress (code_bytes bits base bytes) graph (k + 1) start held' after
+  progress-step bits base bytes graph k start held held' before after is lt p w =
+      let code = code_bytes bits base bytes in
       let len = is.len in
       let t = is.told k lt in
       let stop = stop_of (get_or graph.starts k 0) (get_or graph.leaders k 0) t.reading in
       let moves : Moves held held' before after (stop_line code stop) =
-      subst (λ told. Moves held held' before after (flow_line code.bits code.base (get_or graph.starts k 0) (get_or graph.leaders k 0) (flow_word told))) t.is w in
+      subst (λ told. Moves held held' before after (flow_line bits base (get_or graph.starts k 0) (get_or graph.leaders k 0) (flow_word told))) t.is w in
       let IsRead : Stop → Type 0 = λ (s : Stop). IsReadIn code s.start s.reading in
       let more : stop_lines code p.stops ++ stop_line code stop ≡ stop_lines code (p.stops ++ stop ∷ []) = flat_map_more (stop_line code) [] p.stops stop in
       record {

@@ -1,6 +1,6 @@
 use Rattle.std.proofs.Common.{◌<◌, length, arith, ◌∙◌}
 use Rattle.std.proofs.lemmas.List.{get_or_read}
-use Rattle.flow_graph.specs.Control.{code_bytes}
+use Rattle.flow_graph.specs.Control.{code_bytes_with}
 use Rattle.flow_graph.proofs.Walking.{turns_with_target, turns_without_target, extends_with_target, extends_without_target}
 use Rattle.flow_graph.proofs.Telling.{told_turn}
 use Rattle.flow_graph.proofs.walk.Walk.follow.Goals as goal
@@ -16,7 +16,7 @@ index_mut-requires c =
 
 pub returns-in_ok-arrive-clause-walk : goal.returns-in_ok-arrive-clause-walk
 returns-in_ok-arrive-clause-walk c =
-    let code = code_bytes c.args.bits c.args.base c.args.bytes.now in
+    let code = code_bytes_with c.args.follow c.args.bits c.args.base c.args.bytes.now in
     let order = c.args.self.now.order.items in
     let here = get_or_read order c.args.turn c.index.result.now c.requires.turn c.index.ensures 0 in
     let first = c.in_ok-go_on.ensures in
@@ -28,7 +28,7 @@ returns-in_ok-arrive-clause-walk c =
 
 pub returns-in_ok-arrive-clause-told : goal.returns-in_ok-arrive-clause-told
 returns-in_ok-arrive-clause-told c =
-    let code = code_bytes c.args.bits c.args.base c.args.bytes.now in
+    let code = code_bytes_with c.args.follow c.args.bits c.args.base c.args.bytes.now in
     let order = c.args.self.now.order.items in
     let here = get_or_read order c.args.turn c.index.result.now c.requires.turn c.index.ensures 0 in
     let inside : c.index.result.now < length c.args.bytes.now = omega (arith, here, c.requires.inside) in
@@ -41,7 +41,7 @@ returns-in_ok-arrive-clause-told c =
 
 pub returns-in_default-clause-walk : goal.returns-in_default-clause-walk
 returns-in_default-clause-walk c =
-    let code = code_bytes c.args.bits c.args.base c.args.bytes.now in
+    let code = code_bytes_with c.args.follow c.args.bits c.args.base c.args.bytes.now in
     let order = c.args.self.now.order.items in
     let here = get_or_read order c.args.turn c.index.result.now c.requires.turn c.index.ensures 0 in
     let first = c.in_ok-go_on.ensures in
@@ -51,7 +51,7 @@ returns-in_default-clause-walk c =
 
 pub returns-in_default-clause-told : goal.returns-in_default-clause-told
 returns-in_default-clause-told c =
-    let code = code_bytes c.args.bits c.args.base c.args.bytes.now in
+    let code = code_bytes_with c.args.follow c.args.bits c.args.base c.args.bytes.now in
     let order = c.args.self.now.order.items in
     let here = get_or_read order c.args.turn c.index.result.now c.requires.turn c.index.ensures 0 in
     let inside : c.index.result.now < length c.args.bytes.now = omega (arith, here, c.requires.inside) in

@@ -20,7 +20,7 @@ loop-k-preserved g c =
     let written = rw (c.starts-starts.ensures, c.leaders-leaders.ensures.leaders, c.flows-flows.ensures.flows) at c.in_ok-write_flow_line.ensures.ok in
     let below = rw c.starts-starts.ensures at c.loop-k-test.true in
     record {
-      progress = λ bytes is. progress-step c.held_texts_arrive.ensures _ _ c.loop-k.k _ (g.K.Sink.held c.loop-k.out) _ c.loop-k.pending.items _ is below (c.loop-k.invariant.progress bytes is) written;
+      progress = λ bytes is. progress-step c.held_texts_arrive.ensures _ _ _ _ c.loop-k.k _ (g.K.Sink.held c.loop-k.out) _ c.loop-k.pending.items _ is below (c.loop-k.invariant.progress bytes is) written;
       later = omega (arith, c.loop-k.invariant.later);
     }
 

@@ -3,12 +3,12 @@ use Rattle.std.proofs.lemmas.Int.{ints}
 use Rattle.c_calls.specs.Numbers.{bits_numbered}
 use Rattle.c_calls.specs.FlowFrom.{graph_within}
 use Rattle.c_calls.proofs.FewReached.{few_reached_from}
-use Rattle.c_calls.proofs.flow_from.flow_from.Goals as goal
+use Rattle.c_calls.proofs.flow_from.flow_following.Goals as goal
 
 pub put_graph-requires-clause-few : goal.put_graph-requires-clause-few
 put_graph-requires-clause-few c =
     let is = c.in-Ok.ensures in
-    omega (arith, is.1, few_reached_from (bits_numbered c.args.bits) c.args.base c.args.bytes.now c.args.entries.now c.in-Ok.graph is.0)
+    omega (arith, is.1, few_reached_from c.args.follow (bits_numbered c.args.bits) c.args.base c.args.bytes.now c.args.entries.now c.in-Ok.graph is.0)
 
 pub returns-in-Err : goal.returns-in-Err
 unfolding graph_within
