@@ -1,4 +1,4 @@
-//! Instructions that the table leaves out: followed by control, and stepped. Their bytes and addresses are worked out by hand after the manuals.
+//! Instructions that the table leaves out: followed by control, and stepped. Their bytes and addresses are worked out manually after the manuals.
 
 use crate::tests::compare::{same, same_items};
 use decoder::DecodeError;
