@@ -421,9 +421,10 @@ class ListCommand(gdb.Command):
         pc, address = pc_now(), asked.start
         ran = last_run() if EFFECTS.value == "on" else None
         at = STOPS.before[1] if ran else None
-        rows = []
+        rows, ended = [], True
         for n, item in enumerate(feddurzai.iterate(bits_now(), asked.start, asked.code, unlisted=UNLISTED.value)):
             if n == asked.count:
+                ended = False
                 break
             mark = "=>" if address == pc else " >" if address == at else "  "
             effects = EFFECTS.value == "all" and item.kind is feddurzai.ItemKind.INSTRUCTION
@@ -431,10 +432,8 @@ class ListCommand(gdb.Command):
             if address == at:
                 ran = None
             address += item.len
-        else:
-            address = None
         tell(rows, asked.style)
-        if address is None and asked.faults:
+        if ended and asked.faults:
             print(asked.fault())
         # the instruction that ran last is outside the list
         if ran:
