@@ -3,14 +3,18 @@
     feddurzai-list [/COUNT] [START [LENGTH]] [intel|att|masm]   lists code of the inferior
     feddurzai-flow [START [LENGTH]] [intel|att|masm]            lists what control reaches from START, block by block
 
-START and LENGTH are expressions of GDB, such as `main 40` or `$pc 0x80`; quote an expression with spaces. Without LENGTH the commands list the
-function at START, and without START the function at $pc. /COUNT lists so many instructions from START, or from $pc. `=>` marks the
-instruction at $pc.
+START and LENGTH are expressions of GDB, such as `main 40` or `$pc 0x80`; quote an expression with spaces, and write a symbol that is no expression
+as it is: printf@plt. `START,+LENGTH` and `START,END` mean what they mean for `disassemble`. Without LENGTH the commands list the function at START,
+and without START the function at $pc; where GDB finds no function, ten instructions. /COUNT or /COUNTi lists so many instructions from START, or
+from $pc. `=>` marks the instruction at $pc. Without a style, the list has GDB's `disassembly-flavor`.
 
 The mode is that of the inferior's architecture. `set feddurzai-bits 16`, 32 or 64 overrides it, and 0 restores it.
 
 With `set feddurzai-effects on` the list reports what the instruction that ran last has read and written, and marks it with ` >`. With `all` it
 reports what each instruction reads and writes, and with `off` neither.
+
+An instruction that the opcode table leaves out, such as one with EVEX, is listed as one line with GDB's own text, dimmed on a terminal. `set
+feddurzai-unlisted off` lists its bytes one by one instead.
 """
 
 import os
@@ -25,6 +29,8 @@ import feddurzai
 STYLES = {style.name.lower(): style for style in feddurzai.Style}
 MODES = (16, 32, 64)
 LONGEST = 15
+# how many instructions are listed at a place in no function
+SOME = 10
 
 
 class Bits(gdb.Parameter):
@@ -75,6 +81,27 @@ class EffectsShown(gdb.Parameter):
 EFFECTS = EffectsShown()
 
 
+class UnlistedShown(gdb.Parameter):
+    """Whether feddurzai-list shows an instruction that the opcode table leaves out as one line, with GDB's own text."""
+
+    set_doc = "Set whether feddurzai-list shows instructions that the opcode table leaves out."
+    show_doc = "Show whether feddurzai-list shows instructions that the opcode table leaves out."
+
+    def __init__(self):
+        super().__init__("feddurzai-unlisted", gdb.COMMAND_DATA, gdb.PARAM_BOOLEAN)
+        self.value = True
+
+    def get_set_string(self):
+        return ""
+
+    def get_show_string(self, value):
+        shown = "as one line" if self.value else "byte by byte"
+        return f"feddurzai-list shows instructions that the opcode table leaves out {shown} (feddurzai-unlisted is {value})."
+
+
+UNLISTED = UnlistedShown()
+
+
 class Stops:
     """The thread and its address at the last two stops."""
 
@@ -115,8 +142,11 @@ def architecture_now():
 
 def bits_now():
     """The mode to list in."""
-    if BITS.kept:
-        return BITS.kept
+    return BITS.kept or bits_of_architecture()
+
+
+def bits_of_architecture():
+    """The mode of the inferior's architecture."""
     name = architecture_now().name()
     if name.startswith("i8086"):
         return 16
@@ -134,6 +164,8 @@ def pc_now():
 
 def symbol_of(address):
     """` <name+offset>` for an address, empty if it has no symbol."""
+    if hasattr(gdb, "format_address"):  # GDB 13
+        return gdb.format_address(address)[len(f"{address:#x}") :]
     words = gdb.execute(f"info symbol {address:#x}", to_string=True).split(" in section")[0].strip()
     if words.startswith("No symbol"):
         return ""
@@ -141,32 +173,45 @@ def symbol_of(address):
 
 
 def number_of(expression):
-    """The value of an expression of GDB as an unsigned number; for a function its address."""
+    """The value of an expression of GDB as an unsigned number; for a function its address. A word that is no expression may be a symbol."""
     try:
-        value = gdb.parse_and_eval(expression)
-        if value.type.code == gdb.TYPE_CODE_FUNC:
-            value = value.address
-        return int(value) & (1 << 64) - 1
+        return unsigned(expression)
     except (gdb.error, TypeError, ValueError) as error:
-        raise gdb.GdbError(f"{expression}: {error}")
+        try:
+            return unsigned(f"'{expression}'")
+        except (gdb.error, TypeError, ValueError):
+            raise gdb.GdbError(f"{expression}: {error}")
+
+
+def unsigned(expression):
+    """The value of an expression as an unsigned number."""
+    value = gdb.parse_and_eval(expression)
+    if value.type.code == gdb.TYPE_CODE_FUNC:
+        value = value.address
+    return int(value) & (1 << 64) - 1
+
+
+def style_now():
+    """The style of GDB's own listings."""
+    return feddurzai.Style.ATT if gdb.parameter("disassembly-flavor") == "att" else feddurzai.Style.INTEL
 
 
 def function_at(address):
-    """The first address of the function at an address, and its length. If the function has several parts, these are of the part at the
-    address.
+    """The first address of the function at an address, and its length; None where GDB finds no function. If the function has several parts,
+    these are of the part at the address.
 
     They come from GDB's disassembly, which finds the end of a function with or without debug information."""
     try:
         text = gdb.execute(f"disassemble {address:#x}", to_string=True)
-    except gdb.error as error:
-        raise gdb.GdbError(f"{address:#x}: {error} Give a LENGTH or /COUNT.")
+    except gdb.error:
+        return None
     for part in re.findall(r"^Address range (0x[0-9a-f]+) to (0x[0-9a-f]+):$", text, re.M):
         start, end = (int(it, 16) for it in part)
         if start <= address < end:
             return start, end - start
     starts = [int(it, 16) for it in re.findall(r"^(?:=>)?\s+(0x[0-9a-f]+)", text, re.M)]
     if not starts:
-        raise gdb.GdbError(f"{address:#x}: GDB finds no function there. Give a LENGTH or /COUNT.")
+        return None
     return starts[0], starts[-1] - starts[0] + architecture_now().disassemble(starts[-1])[0]["length"]
 
 
@@ -184,6 +229,22 @@ def read_front(start, length):
     return front + read_front(start + half, length - half) if len(front) == half else front
 
 
+def ranged(words):
+    """Takes `START,END` or `START,+LENGTH` apart, if that is the only word. Returns END; LENGTH becomes the second word."""
+    if len(words) != 1:
+        return None
+    depth, comma = 0, None
+    for at, character in enumerate(words[0]):
+        depth += (character in "([<") - (character in ")]>")
+        if character == "," and depth == 0:
+            comma = at
+    if comma is None:
+        return None
+    start, rest = words[0][:comma], words[0][comma + 1 :].strip()
+    words[:] = [start, rest[1:]] if rest.startswith("+") else [start]
+    return None if rest.startswith("+") else rest
+
+
 class Asked:
     """The arguments of a command: the start, the readable bytes from there, the count of instructions, and the style."""
 
@@ -191,21 +252,19 @@ class Asked:
         words = gdb.string_to_argv(words)
         self.count = None
         if counts and words and words[0].startswith("/"):
-            if not words[0][1:].isdigit():
+            number = words[0][1:].removesuffix("i")
+            if not number.isdigit():
                 raise gdb.GdbError(f"{words[0]} is not a count of instructions: write /20, for example")
-            self.count = int(words.pop(0)[1:])
-        self.style = STYLES[words.pop()] if words and words[-1] in STYLES else feddurzai.Style.INTEL
+            self.count = int(number)
+            words.pop(0)
+        self.style = STYLES[words.pop()] if words and words[-1] in STYLES else style_now()
+        end = ranged(words)
         if len(words) > 2 or len(words) == 2 and self.count is not None:
             raise gdb.GdbError(f"usage: {usage}")
         self.start = number_of(words[0]) if words else pc_now()
         if self.start is None:
             raise gdb.GdbError("no process is running, so there is no $pc: give a START")
-        if len(words) == 2:
-            length = number_of(words[1])
-        elif self.count is not None:
-            length = self.count * LONGEST
-        else:
-            self.start, length = function_at(self.start)
+        length = max(number_of(end) - self.start, 0) if end else self.length_of(words)
         if length > feddurzai.MAX_CODE:
             raise gdb.GdbError(f"{length} bytes are more than {feddurzai.MAX_CODE}, the limit of one command: give a smaller LENGTH")
         self.code = read_front(self.start, length)
@@ -213,9 +272,46 @@ class Asked:
         if self.faults and not self.code:
             raise gdb.GdbError(f"{self.start:#x}: no memory can be read there")
 
+    def length_of(self, words):
+        """How many bytes are asked for. Without words that say it, the start becomes that of the function, if there is one."""
+        if len(words) == 2:
+            return number_of(words[1])
+        if self.count is None:
+            function = function_at(self.start)
+            if function is not None:
+                self.start, length = function
+                return length
+            self.count = SOME
+        return self.count * LONGEST
+
     def fault(self):
         """The line that says where readable memory ends."""
         return f"   {self.start + len(self.code):#x}: no memory can be read from here on"
+
+
+def dimmed(text):
+    """A text in another shade, where GDB's own output is styled."""
+    return f"\x1b[2m{text}\x1b[m" if gdb.parameter("style enabled") and os.isatty(1) else text
+
+
+def text_by_gdb(item, address, style):
+    """GDB's own text of an instruction, None if GDB reads another length there."""
+    if BITS.kept not in (0, bits_of_architecture()):
+        return None
+    before = gdb.parameter("disassembly-flavor")
+    gdb.execute(f"set disassembly-flavor {'att' if style is feddurzai.Style.ATT else 'intel'}")
+    try:
+        told = architecture_now().disassemble(address)[0]
+    except gdb.error:
+        return None
+    finally:
+        gdb.execute(f"set disassembly-flavor {before}")
+    return told["asm"] if told["length"] == item.len and "(bad)" not in told["asm"] else None
+
+
+def unlisted_text(item, address, style):
+    """The text of an instruction that the opcode table leaves out: GDB's own, or else its kind and its bytes."""
+    return dimmed(text_by_gdb(item, address, style) or item.text())
 
 
 def text_of(item, style):
@@ -325,27 +421,48 @@ class ListCommand(gdb.Command):
         pc, address = pc_now(), asked.start
         ran = last_run() if EFFECTS.value == "on" else None
         at = STOPS.before[1] if ran else None
-        for n, item in enumerate(feddurzai.iterate(bits_now(), asked.start, asked.code)):
+        rows, ended = [], True
+        for n, item in enumerate(feddurzai.iterate(bits_now(), asked.start, asked.code, unlisted=UNLISTED.value)):
             if n == asked.count:
+                ended = False
                 break
-            self.tell(item, address, "=>" if address == pc else " >" if address == at else "  ", asked.style)
+            mark = "=>" if address == pc else " >" if address == at else "  "
+            effects = EFFECTS.value == "all" and item.kind is feddurzai.ItemKind.INSTRUCTION
+            rows.append(Row(mark, address, item, effects_text(item, address == at) if effects or address == at else None))
             if address == at:
-                print(effects_text(item, True))
                 ran = None
-            elif EFFECTS.value == "all" and item.kind is feddurzai.ItemKind.INSTRUCTION:
-                print(effects_text(item, False))
             address += item.len
-        else:
-            if asked.faults:
-                print(asked.fault())
+        tell(rows, asked.style)
+        if ended and asked.faults:
+            print(asked.fault())
         # the instruction that ran last is outside the list
         if ran:
-            self.tell(ran, at, " >", asked.style)
-            print(effects_text(ran, True))
+            tell([Row(" >", at, ran, effects_text(ran, True))], asked.style)
 
-    def tell(self, item, address, mark, style):
-        """Prints a line of the listing."""
-        print(f"{mark} {address:#x}{symbol_of(address)}: {item.bytes.hex():30} {text_of(item, style)}")
+
+class Row:
+    """A line of a listing: its mark, its address and its item, and the line below it with what the instruction reads and writes."""
+
+    def __init__(self, mark, address, item, effects):
+        self.item, self.address, self.effects = item, address, effects
+        self.place = f"{mark} {address:#x}{symbol_of(address)}:"
+
+
+def tell(rows, style):
+    """Prints the lines of a listing, in columns."""
+    width = max((len(row.place) for row in rows), default=0)
+    for row in rows:
+        unlisted = row.item.kind is feddurzai.ItemKind.UNLISTED
+        text = unlisted_text(row.item, row.address, style) if unlisted else text_of(row.item, style)
+        print(f"{row.place:{width}} {row.item.bytes.hex():30} {text}")
+        if row.effects is not None:
+            print(row.effects)
+
+
+def unresolved(item):
+    """A note at an indirect jump, whose targets are not followed."""
+    instruction = item.kind is feddurzai.ItemKind.INSTRUCTION
+    return "  (targets unknown)" if instruction and item.info().flow is feddurzai.Flow.INDIRECT_JUMP else ""
 
 
 class FlowCommand(gdb.Command):
@@ -366,7 +483,7 @@ class FlowCommand(gdb.Command):
                 print(f"block {address:#x}{symbol_of(address)}")
             mark = "=>" if address == pc else "  "
             beside = "" if at == leader else f"  of {asked.start + leader:#x}"
-            print(f"{mark} {address:#x}: {text_of(item, asked.style)}{beside}")
+            print(f"{mark} {address:#x}: {text_of(item, asked.style)}{unresolved(item)}{beside}")
         if asked.faults:
             print(asked.fault())
 

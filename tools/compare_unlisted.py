@@ -2,12 +2,13 @@
 """Compares the lengths of instructions without a row, and the addresses that they refer to, with other disassemblers.
 
     tools/compare_unlisted.py objdump FILE ..       each instruction of these programs and libraries whose format is measured
+    tools/compare_unlisted.py llvm FILE ..          the same with LLVM (llvm-objdump-14, or the program of LLVM_OBJDUMP)
     tools/compare_unlisted.py zydis [COUNT [SEED]]  COUNT random encodings of each format, 20,000 by default
     tools/compare_unlisted.py random [COUNT [SEED]] the same with objdump
     tools/compare_unlisted.py library [COUNT [SEED]]  the same with the library, by its Python package
 
 `tools/unlisted/model.py` computes the lengths from the formats alone; docs/unlisted.md states them. The library's answers must be those of the model,
-or that the table has the instruction. Needed are objdump (Debian: binutils); or Zydis and a C compiler (Debian: libzydis-dev, gcc); or the shared library
+or that the table has the instruction. Needed are objdump (Debian: binutils); LLVM (Debian: llvm-14); Zydis and a C compiler (Debian: libzydis-dev, gcc); or the shared library
 (capi/build.sh), which the environment variable FEDDURZAI_LIBRARY can name.
 
 The script prints each difference, and ends with status 1 if there is one. No proof depends on it.
@@ -32,13 +33,21 @@ BRANCH = re.compile(r"xbegin\s+(?:0x)?([0-9a-f]+)")
 MACHINES = {16: "i8086", 32: "i386", 64: "i386:x86-64"}
 
 
-def disassembled(words):
-    """The instructions that objdump lists: address, bytes and text."""
-    listing = subprocess.run(["objdump", "-w", "--insn-width=16", *words], capture_output=True, text=True, check=True).stdout
-    for line in listing.splitlines():
-        found = LINE.match(line)
-        if found:
-            yield int(found[1], 16), bytes.fromhex(found[2]), found[3]
+OBJDUMP = ("objdump", "-w", "--insn-width=16")
+LLVM = (os.environ.get("LLVM_OBJDUMP", "llvm-objdump-14"),)
+# how each says that it reads nothing
+UNREAD = ("(bad)", "<unknown>")
+
+
+def disassembled(words, program=OBJDUMP):
+    """The instructions that a disassembler lists: address, bytes and text."""
+    with subprocess.Popen([*program, *words], stdout=subprocess.PIPE, text=True) as listing:
+        for line in listing.stdout:
+            found = LINE.match(line)
+            if found:
+                yield int(found[1], 16), bytes.fromhex(found[2]), found[3]
+        if listing.wait():
+            sys.exit(f"compare_unlisted.py: {program[0]} ended with status {listing.returncode}")
 
 
 def tell(words):
@@ -47,13 +56,13 @@ def tell(words):
     return 1
 
 
-def compare_programs(paths):
-    """Each instruction of programs in 64-bit mode, as objdump lists it."""
+def compare_programs(paths, program=OBJDUMP):
+    """Each instruction of programs in 64-bit mode, as a disassembler lists it."""
     differences = 0
     for path in paths:
         counts, all_count, addresses = collections.Counter(), 0, 0
-        for address, code, text in disassembled(["-d", path]):
-            if "(bad)" in text:
+        for address, code, text in disassembled(["-d", path], program):
+            if any(word in text for word in UNREAD):
                 continue
             all_count += 1
             found = shape(64, code + b"\x90" * 15)
@@ -209,11 +218,11 @@ def compare_zydis(count, seed):
 def main():
     """Compares, and returns the exit status."""
     parser = argparse.ArgumentParser(description=__doc__, formatter_class=argparse.RawDescriptionHelpFormatter)
-    parser.add_argument("what", choices=("objdump", "random", "zydis", "library"))
+    parser.add_argument("what", choices=("objdump", "llvm", "random", "zydis", "library"))
     parser.add_argument("words", nargs="*")
     options = parser.parse_args()
-    if options.what == "objdump":
-        return 1 if compare_programs(options.words) else 0
+    if options.what in ("objdump", "llvm"):
+        return 1 if compare_programs(options.words, LLVM if options.what == "llvm" else OBJDUMP) else 0
     count, seed = [int(word) for word in options.words] + [20000, 1][len(options.words):]
     compare = {"random": compare_random_objdump, "zydis": compare_zydis, "library": compare_library}[options.what]
     return 1 if compare(count, seed) else 0

@@ -134,18 +134,27 @@ def effects_of(bits: int, instr: bytes) -> Effects:
     """What the instruction in a struct touches, in a mode."""
     room = _TouchedRoom()
     taken(_native.effects(_checks.number("bits", bits, _checks.U32), instr, room))
-    told = room.raw
+    return _effects_of(room.raw, instr[_ASIZE_AT])
+
+
+# a set of flags, made once: the constructor of `Flags` takes longer than all else here
+_flags_of = lru_cache(maxsize=1024)(Flags)
+
+
+@lru_cache(maxsize=8192)
+def _effects_of(told: bytes, asize: int) -> Effects:
+    """What a feddurzai_touched says of an instruction with an address size."""
     features, read, written, cleared, set_, undefined, kept = _SETS.unpack_from(told)
     memory_count, register_count = told[_COUNTS_AT], told[_COUNTS_AT + 1]
     places = range(_MEMORY_AT, _MEMORY_AT + memory_count * _MEMORY.size, _MEMORY.size)
     return Effects(
         _registers_of(told[_REGISTERS_AT : _REGISTERS_AT + 3 * register_count]),
-        tuple(_memory_of(told[at : at + _MEMORY.size], instr[_ASIZE_AT]) for at in places),
-        Flags(read),
-        Flags(written),
-        Flags(cleared),
-        Flags(set_),
-        Flags(undefined),
-        Flags(kept),
+        tuple(_memory_of(told[at : at + _MEMORY.size], asize) for at in places),
+        _flags_of(read),
+        _flags_of(written),
+        _flags_of(cleared),
+        _flags_of(set_),
+        _flags_of(undefined),
+        _flags_of(kept),
         _features_of(features),
     )

@@ -69,6 +69,12 @@ def text_of(bits: int, instr: bytes, syntax: int) -> str:
     """The text of the instruction in a struct, in a mode that has been checked."""
     if type(syntax) is not Style:
         syntax = _checks.number("syntax", syntax, _checks.U32)
+    return _text_of(bits, instr, syntax)
+
+
+# most code has few different instructions: of those of gdb, more than half have a text that one of the last thousands had
+@lru_cache(maxsize=8192)
+def _text_of(bits: int, instr: bytes, syntax: int) -> str:
     room = _native.TextRoom()
     said = _native.text(bits, syntax, instr, room, _native.MAX_TEXT)
     if said < 0:

@@ -5,7 +5,7 @@ ghost use Rattle.opcode_rows.specs.Allowed.{is_well_formed};
 ghost use Rattle.prefixes.specs.Answer.{is_mode};
 
 use arrayvec::ArrayVec;
-use decoder::decode;
+use decoder::{UNREAD, decode, decode_onto};
 use encoder::encode;
 use intel_text::print_to;
 use x86_values::{Bits, Decoded, Instr, same};
@@ -130,14 +130,15 @@ fn sweep<const BITS: u32>(bytes: &[u8], bits: Bits, work: Work) -> Counts
 {
     let mut counts = NOTHING;
     let mut page = Page::new();
+    let mut decoded = UNREAD;
     let mut rest = bytes;
     let mut ip = 0_u64;
     for _ in 0..bytes.len() {
         if rest.is_empty() {
             break;
         }
-        let len = match decode::<BITS>(ip, rest) {
-            Ok(decoded) => {
+        let len = match decode_onto(bits, ip, rest, &mut decoded) {
+            Ok(()) => {
                 count(&mut counts.items);
                 counts.sum = counts.sum.wrapping_add(u64::from(decoded.instr.code.0));
                 match work {
