@@ -1,4 +1,4 @@
-//! Calls that push their own return addresses, elsewhere, with bytes worked out by hand from the manual's encodings of PUSH, MOV and JMP.
+//! Calls that push their own return addresses, elsewhere, with bytes worked out manually from the manual's encodings of PUSH, MOV and JMP.
 
 use crate::tests::compare::same;
 use decoder::decode_in;
