@@ -1,8 +1,8 @@
 -- What whole sight says, and that nothing enters.
-use Rattle.std.proofs.Common.{◌≡◌, ℕ, zero, suc, ◌+◌, ◌<◌, ◌≤◌, inl, inr, ◌⊎◌, List, length, get_or, None, arith, refl, sym, ap, ◌∙◌, subst}
+use Rattle.std.proofs.Common.{◌≡◌, ℕ, zero, suc, ◌+◌, ◌<◌, ◌≤◌, inl, inr, ◌⊎◌, List, length, get_or, None, arith, refl, ap, subst}
 use Rattle.std.specs.Prelude.{IsTrue}
 use Rattle.std.specs.List.{Contains}
-use Rattle.std.proofs.lemmas.Bool.{cases_lt, cases_eq, cases_Bool, false≢true}
+use Rattle.std.proofs.lemmas.Bool.{cases_lt, cases_eq, cases_Bool}
 use Rattle.x86_values.specs.declared.Decoded.{Decoded}
 use Rattle.row_relation.specs.Spells.{Reading, Read, TooShort, Invalid}
 use Rattle.decoder.specs.OneReading.{OneReadingFacts}
@@ -103,7 +103,7 @@ module _ (one : OneReadingFacts) (code : CodeBytes) (entries : List ℕ) where
             | inr g ↦ absurd (none p q (record { reached = seen; passes = (s, inl (record { behind = behind; within = within; from = inl g })) }))
           ],
           λ moved. twice part.moved q
-          (λ not_moved. none p q (record { reached = seen; passes = (s, inl (record { behind = behind; within = within; from = inr (moved, not_moved) })) })),
+              (λ not_moved. none p q (record { reached = seen; passes = (s, inl (record { behind = behind; within = within; from = inr (moved, not_moved) })) })),
         )
 
     call_or : (p : ℕ) → part.start ≡ Closed → IsSeen code entries p → part.taken ≤ p → (s : IsSuccessor code p 0) → (IsCallAt code p → ⊥) → ⊥

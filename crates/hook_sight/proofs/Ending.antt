@@ -1,5 +1,5 @@
 -- Where sight ends, by what is told of an offset and by where control goes from it.
-use Rattle.std.proofs.Common.{◌≡◌, ℕ, ◌+◌, ◌<◌, ◌≤◌, inl, inr, Bool, true, false, eqb, List, length, get_or, Option, Some, None, Result, Ok, Err, arith, rules, refl, sym, ap, ◌∙◌, subst}
+use Rattle.std.proofs.Common.{◌≡◌, ℕ, ◌+◌, ◌<◌, ◌≤◌, inl, inr, Bool, true, false, eqb, List, length, get_or, Some, None, Result, arith, rules, refl, sym, ap, ◌∙◌, subst}
 use Rattle.std.specs.Prelude.{IsTrue, if◌then◌else◌, ◌&&◌}
 use Rattle.std.specs.List.{Contains}
 use Rattle.std.specs.List.Sorted.{IsStrictlyIncreasing}
@@ -16,7 +16,7 @@ use Rattle.flow_graph.specs.Control.{CodeBytes, IsReadIn, IsSuccessor, goes_on}
 use Rattle.flow_graph.specs.Exits.{AreExits}
 use Rattle.flow_graph.specs.Told.{told_of, Tells}
 use Rattle.hook_sight.specs.declared.answers.SightEnd.{SightEnd}
-use Rattle.hook_sight.specs.declared.answers.SightEnd.TheVariants.{NotRead, IndirectJump, Ended}
+use Rattle.hook_sight.specs.declared.answers.SightEnd.TheVariants.{IndirectJump, Ended}
 use Rattle.hook_sight.specs.Sight.{EndsSight, IsFollowed, IsFirstEnd, IsEndAt, is_indirect_jump, end_by_flow, end_by_told}
 use Rattle.hook_sight.proofs.OneReading.{ends_there}
 use Rattle.hook_sight.proofs.Places.{at_place, at_lesser}

@@ -1,12 +1,11 @@
 -- What was not reached, offset by offset.
-use Rattle.std.proofs.Common.{◌≡◌, ℕ, ◌+◌, ◌<◌, ◌≤◌, inl, inr, ◌⊎◌, List, length, Option, Some, None, arith, sym, subst}
+use Rattle.std.proofs.Common.{◌≡◌, ℕ, ◌+◌, ◌<◌, ◌≤◌, inl, inr, List, length, Option, Some, None, arith, subst}
 use Rattle.std.specs.List.{Contains}
-use Rattle.std.specs.List.Sorted.{IsStrictlyIncreasing}
 use Rattle.std.proofs.lemmas.Bool.{cases_lt}
 use Rattle.flow_graph.specs.Control.{CodeBytes}
 use Rattle.hook_sight.specs.Entries.{TakenPart, IsPassage, IsLeast, IsFirst}
-use Rattle.hook_sight.specs.Suspects.{IsSuspect, IsAt, IsCursor}
-use Rattle.hook_sight.proofs.Places.{at_place, not_in_list}
+use Rattle.hook_sight.specs.Suspects.{IsSuspect, IsAt}
+use Rattle.hook_sight.proofs.Places.{at_place}
 
 module _ (code : CodeBytes) (part : TakenPart) (starts : List ℕ) where
   -- the suspects from p on

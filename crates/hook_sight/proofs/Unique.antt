@@ -1,8 +1,7 @@
 -- There is one view of a function.
-use Rattle.std.proofs.Common.{◌≡◌, ℕ, ◌+◌, ◌<◌, ◌≤◌, inl, inr, List, length, Option, Some, None, arith, refl, sym, ap, ◌∙◌, subst}
+use Rattle.std.proofs.Common.{◌≡◌, ℕ, ◌≤◌, inl, inr, List, Option, Some, None, arith, refl, sym, ap, ◌∙◌, subst}
 use Rattle.std.specs.Prelude.{IsTrue}
 use Rattle.std.proofs.lemmas.Bool.{cases_lt, false≢true}
-use Rattle.x86_values.specs.declared.Decoded.{Decoded}
 use Rattle.row_relation.specs.Spells.{Reading, Read, TooShort, Invalid}
 use Rattle.decoder.specs.OneReading.{OneReadingFacts}
 use Rattle.operand_info.specs.declared.columns.Flow.{Flow}
@@ -15,7 +14,7 @@ use Rattle.hook_sight.specs.declared.answers.SightEnd.{SightEnd}
 use Rattle.hook_sight.specs.declared.answers.SightEnd.TheVariants.{NotRead, IndirectJump, Ended}
 use Rattle.hook_sight.specs.declared.answers.View.{View}
 use Rattle.hook_sight.specs.Sight.{IsSeen, IsSight, IsFirstEnd, EndsSight, EndsBy}
-use Rattle.hook_sight.specs.Entries.{TakenPart, IsLeast, IsFirst, IsFirstPassage}
+use Rattle.hook_sight.specs.Entries.{TakenPart, IsLeast, IsFirstPassage}
 use Rattle.hook_sight.specs.Suspects.{IsSuspect, IsSuspected}
 use Rattle.hook_sight.specs.Views.{IsView}
 use Rattle.hook_sight.proofs.OneReading.{same_reading}

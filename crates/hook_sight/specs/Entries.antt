@@ -1,5 +1,5 @@
 -- Whether control enters what a hook overwrites.
-use Rattle.std.specs.Prelude.{◌≡◌, ◌⊎◌, ℕ, ◌+◌, ◌<◌, ◌≤◌, nat_lt, Bool, true, false, ◌&&◌, if◌then◌else◌, List, length, slice_index, Option, Some, None, IsTrue}
+use Rattle.std.specs.Prelude.{◌≡◌, ◌⊎◌, ℕ, ◌+◌, ◌<◌, ◌≤◌, nat_lt, Bool, true, false, if◌then◌else◌, List, slice_index, Option, Some, None}
 use Rattle.std.specs.List.{Contains}
 use Rattle.x86_values.specs.declared.Decoded.{Decoded}
 use Rattle.row_relation.specs.Spells.{Read}

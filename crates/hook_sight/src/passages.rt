@@ -156,13 +156,7 @@ fn lesser(a: Option<usize>, b: Option<usize>) -> Option<usize>
         None => b,
         Some(x) => match b {
             None => Some(x),
-            Some(y) => {
-                if y < x {
-                    Some(y)
-                } else {
-                    Some(x)
-                }
-            }
+            Some(y) => { if y < x { Some(y) } else { Some(x) } }
         },
     }
 }
@@ -182,7 +176,16 @@ pub(crate) fn passage_from(
     ensures { IsLeast (IsPassage (code_bytes bits ip code.now) (part_of taken moved.now start) p) result }
 {
     let exits = exits_at(bits, ip, code, p);
-    let end = entry_of(bits, ip, code, taken, moved, start, p, end_exit(p, exits.next));
+    let end = entry_of(
+        bits,
+        ip,
+        code,
+        taken,
+        moved,
+        start,
+        p,
+        end_exit(p, exits.next),
+    );
     let target = entry_of(bits, ip, code, taken, moved, start, p, exits.target);
     lesser(end, target)
 }

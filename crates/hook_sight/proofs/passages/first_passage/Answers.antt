@@ -24,4 +24,4 @@ pub returns : goal.returns
 returns c =
     let all : length c.args.starts.now ≤ c.places.k = omega (arith, c.places-test.false) in
     λ p q e. at_all (NoneFrom (code_bytes c.args.bits c.args.ip c.args.code.now) (part_of c.args.taken c.args.moved.now c.args.start))
-        c.args.starts.now c.places.k all c.places.invariant p e.reached q e.passes
+    c.args.starts.now c.places.k all c.places.invariant p e.reached q e.passes
