@@ -117,8 +117,10 @@ module _ (one : OneReadingFacts) (code : CodeBytes) (entries : List ℕ) where
           | inl call ↦ there.0 (is_true call)
           | inr other ↦ absurd (not_none (λ c. not_true other (there.1 c)))
         ]
-    by_reading p TooShort reads leads not_none = absurd leads
-    by_reading p Invalid reads leads not_none = absurd leads
+    by_reading p TooShort reads leads not_none =
+        absurd (not_none (λ c. let same : Read c.decoded ≡ TooShort = same_reading one code p (Read c.decoded) TooShort c.reads reads in cc))
+    by_reading p Invalid reads leads not_none =
+        absurd (not_none (λ c. let same : Read c.decoded ≡ Invalid = same_reading one code p (Read c.decoded) Invalid c.reads reads in cc))
 
     -- **nothing goes in but what stands there, and the start is only called**
     pub kept_out : IsKeptOut code entries part

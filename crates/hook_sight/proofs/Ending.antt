@@ -14,7 +14,9 @@ use Rattle.operand_info.specs.ByCode.{flow_of}
 use Rattle.flow_graph.specs.declared.exits.Exits.{Exits}
 use Rattle.flow_graph.specs.Control.{CodeBytes, IsReadIn, IsSuccessor, goes_on}
 use Rattle.flow_graph.specs.Exits.{AreExits}
-use Rattle.flow_graph.specs.Told.{told_of, Tells}
+use Rattle.flow_graph.specs.declared.exits.Follow.{Follow}
+use Rattle.flow_graph.specs.declared.exits.Follow.TheVariants.{Listed}
+use Rattle.flow_graph.specs.Told.{told_of, IsTold, Tells}
 use Rattle.hook_sight.specs.declared.answers.SightEnd.{SightEnd}
 use Rattle.hook_sight.specs.declared.answers.SightEnd.TheVariants.{IndirectJump, Ended}
 use Rattle.hook_sight.specs.Sight.{EndsSight, IsFollowed, IsFirstEnd, IsEndAt, is_indirect_jump, end_by_flow, end_by_told}
@@ -57,7 +59,7 @@ module _ (one : OneReadingFacts) (code : CodeBytes) (p : ℕ) (exits : Exits) (a
               let s : IsSuccessor code p (p + d.len) = record { reading = Read d; reads = reads; leads = inl (record { flow = is_true on; end = refl }); inside = l } in
               elim (are.all (p + d.len) s) [
                 | inl n ↦ absurd (omega (arith, n.0, none))
-                | inr t ↦ absurd ((are.target (p + d.len) t).1 (record { decoded = d; reads = reads; end = refl }))
+                | inr t ↦ absurd ((are.target (p + d.len) t).1 (record { reading = Read d; reads = reads; end = refl }))
               ]
         ]
 
@@ -95,9 +97,9 @@ module _ (one : OneReadingFacts) (code : CodeBytes) (p : ℕ) (exits : Exits) (a
   by_reading Invalid reads told e =
       subst (λ (x : Result Flow DecodeError). IsEndAt code p (end_by_told x exits.next)) (sym e) (record { reading = Invalid; reads = reads; cause = tt })
 
-  -- what is told of an offset, and the exits there, say whether sight ends
-  pub end_right : (told : Result Flow DecodeError) → Tells code p told → IsEndAt code p (end_by_told told exits.next)
-  end_right told t = by_reading t.reading t.reads told t.is
+  -- what is told of an offset of listed code, and the exits there, say whether sight ends
+  pub end_right : code.follow ≡ Listed → (told : Result Flow DecodeError) → Tells code p told → IsEndAt code p (end_by_told told exits.next)
+  end_right listed told t = by_reading t.reading t.reads told (subst (λ (f : Follow). IsTold f code p t.reading told) listed t.is)
 
 -- ---- at the first of some
 

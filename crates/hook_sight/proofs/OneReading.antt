@@ -1,11 +1,11 @@
 -- The bytes from an offset on are read in one way alone.
-use Rattle.std.proofs.Common.{◌≡◌, ℕ, ◌+◌, List, drop, ap, ◌∙◌}
+use Rattle.std.proofs.Common.{◌≡◌, ℕ, ◌+◌, List, drop, ap, subst}
 use Rattle.x86_values.specs.declared.Bits.{Bits}
 use Rattle.x86_values.specs.declared.Decoded.{Decoded}
 use Rattle.row_relation.specs.Spells.{Reading, Read, TooShort, Invalid}
 use Rattle.opcode_rows.specs.Sweep.{IsReadAt}
 use Rattle.decoder.specs.OneReading.{OneReadingFacts}
-use Rattle.flow_graph.specs.Control.{CodeBytes, IsReadIn, EndsAt}
+use Rattle.flow_graph.specs.Control.{CodeBytes, IsReadIn, ReadingEnds, EndsAt}
 
 module _ (one : OneReadingFacts) where
   -- some bytes at an offset have one reading
@@ -20,15 +20,7 @@ module _ (one : OneReadingFacts) where
 
   -- the instruction ends where its bytes do
   pub ends_there : (code : CodeBytes) (p q : ℕ) (d : Decoded) → IsReadIn code p (Read d) → EndsAt code p q → q ≡ p + d.len
-  ends_there code p q d reads e =
-      let same = same_reading code p (Read e.decoded) (Read d) e.reads reads in
-      let len : e.decoded.len ≡ d.len = ap read_len same in
-      e.end ∙ ap (λ n. p + n) len
-    where
-      read_len : Reading → ℕ
-      read_len (Read x) = x.len
-      read_len TooShort = 0
-      read_len Invalid = 0
+  ends_there code p q d reads e = subst (λ (r : Reading). ReadingEnds code p r q) (same_reading code p e.reading (Read d) e.reads reads) e.end
 
 -- the instruction of a reading, else another
 read_or : Decoded → Reading → Decoded
