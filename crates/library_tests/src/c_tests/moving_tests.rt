@@ -152,11 +152,19 @@ const UNSEEN: &[u8] = b"\xff\xe0\x90\x90\x90\xeb\xf9";
 fn is_the_view(rt: &impl Abort, view: &FlatView) {
     let found = [view.sight as u64, view.sight_at];
     are(rt, "sight", &found, &[2, 0]);
-    let found = [view.is_entered as u64, view.entered_from, view.entered_target];
+    let found = [
+        view.is_entered as u64,
+        view.entered_from,
+        view.entered_target,
+    ];
     are(rt, "not entered", &found, &[0, 0, 0]);
     let found = [view.has_inside as u64, view.inside];
     are(rt, "no entry within", &found, &[0, 0]);
-    let found = [view.has_suspect as u64, view.suspect_from, view.suspect_target];
+    let found = [
+        view.has_suspect as u64,
+        view.suspect_from,
+        view.suspect_target,
+    ];
     are(rt, "the suspect", &found, &[1, 5, 0]);
 }
 
@@ -164,17 +172,7 @@ fn is_the_view(rt: &impl Abort, view: &FlatView) {
 #[test]
 fn a_function_is_seen(rt: HostRuntime) {
     let mut view = NO_VIEW;
-    let answer = look(
-        rt.alloc(),
-        64,
-        0x1000,
-        UNSEEN,
-        &[],
-        5,
-        &[0],
-        1,
-        &mut view,
-    );
+    let answer = look(rt.alloc(), 64, 0x1000, UNSEEN, &[], 5, &[0], 1, &mut view);
     answers(&rt, "the call", answer, 0);
     is_the_view(&rt, &view);
 }

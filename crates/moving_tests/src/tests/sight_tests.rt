@@ -84,8 +84,14 @@ const FUNCTIONS: &[(Case, View)] = &[
             ..CASE
         },
         View {
-            sight: Sight::Ends { at: 6, why: SightEnd::NotRead },
-            suspect: Some(Passage { from: 12, target: 3 }),
+            sight: Sight::Ends {
+                at: 6,
+                why: SightEnd::NotRead,
+            },
+            suspect: Some(Passage {
+                from: 12,
+                target: 3,
+            }),
             ..WHOLE
         },
     ),
@@ -98,7 +104,10 @@ const FUNCTIONS: &[(Case, View)] = &[
             ..CASE
         },
         View {
-            entered: Some(Passage { from: 12, target: 3 }),
+            entered: Some(Passage {
+                from: 12,
+                target: 3,
+            }),
             ..WHOLE
         },
     ),
@@ -111,8 +120,14 @@ const FUNCTIONS: &[(Case, View)] = &[
             ..CASE
         },
         View {
-            sight: Sight::Ends { at: 3, why: SightEnd::IndirectJump },
-            suspect: Some(Passage { from: 13, target: 3 }),
+            sight: Sight::Ends {
+                at: 3,
+                why: SightEnd::IndirectJump,
+            },
+            suspect: Some(Passage {
+                from: 13,
+                target: 3,
+            }),
             ..WHOLE
         },
     ),
@@ -126,8 +141,14 @@ const FUNCTIONS: &[(Case, View)] = &[
             ..CASE
         },
         View {
-            sight: Sight::Ends { at: 3, why: SightEnd::IndirectJump },
-            entered: Some(Passage { from: 13, target: 3 }),
+            sight: Sight::Ends {
+                at: 3,
+                why: SightEnd::IndirectJump,
+            },
+            entered: Some(Passage {
+                from: 13,
+                target: 3,
+            }),
             ..WHOLE
         },
     ),
@@ -139,7 +160,10 @@ const FUNCTIONS: &[(Case, View)] = &[
             ..CASE
         },
         View {
-            entered: Some(Passage { from: 13, target: 3 }),
+            entered: Some(Passage {
+                from: 13,
+                target: 3,
+            }),
             ..WHOLE
         },
     ),
@@ -243,7 +267,10 @@ const FUNCTIONS: &[(Case, View)] = &[
             ..CASE
         },
         View {
-            sight: Sight::Ends { at: 0, why: SightEnd::IndirectJump },
+            sight: Sight::Ends {
+                at: 0,
+                why: SightEnd::IndirectJump,
+            },
             suspect: Some(Passage { from: 5, target: 0 }),
             ..WHOLE
         },
@@ -256,7 +283,10 @@ const FUNCTIONS: &[(Case, View)] = &[
             ..CASE
         },
         View {
-            sight: Sight::Ends { at: 0, why: SightEnd::IndirectJump },
+            sight: Sight::Ends {
+                at: 0,
+                why: SightEnd::IndirectJump,
+            },
             ..WHOLE
         },
     ),
@@ -267,7 +297,10 @@ const FUNCTIONS: &[(Case, View)] = &[
             ..CASE
         },
         View {
-            sight: Sight::Ends { at: 0, why: SightEnd::IndirectJump },
+            sight: Sight::Ends {
+                at: 0,
+                why: SightEnd::IndirectJump,
+            },
             ..WHOLE
         },
     ),
@@ -279,7 +312,10 @@ const FUNCTIONS: &[(Case, View)] = &[
             ..CASE
         },
         View {
-            sight: Sight::Ends { at: 4, why: SightEnd::Ended },
+            sight: Sight::Ends {
+                at: 4,
+                why: SightEnd::Ended,
+            },
             ..WHOLE
         },
     ),
@@ -291,7 +327,10 @@ const FUNCTIONS: &[(Case, View)] = &[
             ..CASE
         },
         View {
-            sight: Sight::Ends { at: 5, why: SightEnd::Ended },
+            sight: Sight::Ends {
+                at: 5,
+                why: SightEnd::Ended,
+            },
             ..WHOLE
         },
     ),
@@ -306,13 +345,7 @@ const FUNCTIONS: &[(Case, View)] = &[
         WHOLE,
     ),
     // no code
-    (
-        Case {
-            code: "",
-            ..CASE
-        },
-        WHOLE,
-    ),
+    (Case { code: "", ..CASE }, WHOLE),
 ];
 
 #[test]
@@ -386,7 +419,10 @@ const OTHER_MODES: &[(Case, View)] = &[
             ..CASE_32
         },
         View {
-            sight: Sight::Ends { at: 5, why: SightEnd::NotRead },
+            sight: Sight::Ends {
+                at: 5,
+                why: SightEnd::NotRead,
+            },
             suspect: Some(Passage { from: 7, target: 1 }),
             ..WHOLE
         },
@@ -439,7 +475,10 @@ const OTHER_MODES: &[(Case, View)] = &[
             ..CASE_16
         },
         View {
-            sight: Sight::Ends { at: 0, why: SightEnd::IndirectJump },
+            sight: Sight::Ends {
+                at: 0,
+                why: SightEnd::IndirectJump,
+            },
             suspect: Some(Passage { from: 3, target: 2 }),
             ..WHOLE
         },
