@@ -11,6 +11,7 @@ use crate::numbers::bits_numbered;
 use crate::refusal::{Refusal, refusal_status};
 use step_slots::{UnlistedStep, UnlistedStepError, step_unlisted_at};
 use unlisted::MeasureError;
+use x86_values::Bits;
 
 /// Why there is no code of a step of an instruction without a row.
 #[derive(Clone, Copy)]
@@ -38,6 +39,22 @@ fn unlisted_refusal(why: UnlistedRefusal) -> Refusal
     }
 }
 
+/// The code of a step of an instruction without a row, in a mode.
+fn unlisted_code_in(
+    bits: Bits,
+    ip: u64,
+    bytes: &[u8],
+    place: u64,
+) -> Result<UnlistedStep, UnlistedRefusal>
+    ensures answer { spec.IsUnlistedCodeIn bits ip bytes.now place result }
+    ensures short { IfOk result (λ code. length code.bytes.items ≤ 20) }
+{
+    match step_unlisted_at(bits, ip, bytes, place) {
+        Ok(code) => Ok(code),
+        Err(why) => Err(UnlistedRefusal::NotStood(why)),
+    }
+}
+
 /// The code of a step of an instruction without a row.
 fn unlisted_code(
     bits: u32,
@@ -50,10 +67,7 @@ fn unlisted_code(
 {
     match bits_numbered(bits) {
         None => Err(UnlistedRefusal::Mode),
-        Some(bits) => match step_unlisted_at(bits, ip, bytes, place) {
-            Ok(code) => Ok(code),
-            Err(why) => Err(UnlistedRefusal::NotStood(why)),
-        },
+        Some(bits) => unlisted_code_in(bits, ip, bytes, place),
     }
 }
 
