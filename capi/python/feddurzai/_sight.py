@@ -15,7 +15,11 @@ _Room = _native.room_of(_STRUCT.size)
 
 
 class Passage(NamedTuple):
-    """Control that goes from the instruction at one offset to another offset."""
+    """Control that goes from the instruction at one offset to another offset.
+
+    >>> look(64, 0x1000, bytes.fromhex("488b07 4889c1 ebfb c3"), 6, [0, 3]).entered
+    Passage(start=6, target=3)
+    """
 
     start: int
     target: int
@@ -27,6 +31,10 @@ class View(NamedTuple):
     `sight` is WHOLE, or why sight ends at the offset `sight_at`. `entered` is the first passage into the overwritten bytes, `inside` the least
     entry within them after the first one, and `suspect` the first passage into them from bytes that control was not seen to reach, which may
     be data.
+
+    >>> view = look(64, 0x1000, bytes.fromhex("53 488d1df9ffffff c3"), 8, [0, 1])
+    >>> view.sight is Sight.WHOLE, view.entered, view.inside, view.suspect
+    (True, None, None, None)
     """
 
     sight: Sight
