@@ -1,4 +1,5 @@
-// Runs a 64-bit program, and executes each of its instructions out of line: in a slot of its own, whose code feddurzai_step makes. Nothing of the program
+// Runs a 64-bit program, and executes each of its instructions out of line: in a slot of its own, whose code feddurzai_step or
+// feddurzai_step_unlisted makes. Nothing of the program
 // is changed, and no instruction is executed at its own address. Linux on x86-64; one process and one thread.
 //
 //     cc -O2 -o step_program tools/stepping/step_program.c -I capi FOLDER/libfeddurzai.a
@@ -162,7 +163,10 @@ static int is_slot(uint64_t address)
 static int32_t code_of(const struct stop *stop, size_t count, uint8_t *code)
 {
     feddurzai_step_report report;
-    return feddurzai_step(64, stop->ip, stop->bytes, count, stop->place, code, SLOT, &report);
+    int32_t len = feddurzai_step(64, stop->ip, stop->bytes, count, stop->place, code, SLOT, &report);
+    if (len == FEDDURZAI_INVALID || len == FEDDURZAI_TOO_SHORT)
+        len = feddurzai_step_unlisted(64, stop->ip, stop->bytes, count, stop->place, code, SLOT, &report);
+    return len;
 }
 
 // Makes the slot of an address.
