@@ -32,12 +32,7 @@ pub enum CallError {
 }
 
 /// The instructions that push and jump, moved to a place.
-fn move_call(
-    alloc: Global,
-    bits: Bits,
-    call: &PushedCall,
-    place: u64,
-) -> Result<Moved, PlanError>
+fn move_call(alloc: Global, bits: Bits, call: &PushedCall, place: u64) -> Result<Moved, PlanError>
     requires placed { ArePlaced bits (items_in call.now) }
     requires few { length (items_in call.now) ≤ 3 }
     ensures { IsOutsideAnswer bits (items_in call.now) place (as_moving result) }
@@ -65,12 +60,7 @@ fn call_answer(moved: Result<Moved, PlanError>) -> Result<Moved, CallError>
 ///
 /// Errors, in this order: the instruction is no such CALL; the block would end past the address space of the mode; the jump cannot reach its target
 /// from there. Lack of memory can occur at any point after the first.
-pub fn step_call_at(
-    alloc: Global,
-    bits: Bits,
-    item: Placed,
-    place: u64,
-) -> Result<Moved, CallError>
+pub fn step_call_at(alloc: Global, bits: Bits, item: Placed, place: u64) -> Result<Moved, CallError>
     ensures answer { spec.IsCallStood bits item place result }
     ensures begins { IfOk result (λ moved. spec.BeginsWithPush bits place moved) }
     ensures short { IfOk result (λ moved. length moved.bytes ≤ 43) }

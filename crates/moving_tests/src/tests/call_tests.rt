@@ -91,13 +91,7 @@ const CALLS: &[Call] = &[
         0x1800,
         "6805100000e9f6070000",
     ),
-    (
-        Bits::B32,
-        0x1000,
-        "ff542404",
-        0x1800,
-        "6804100000ff642408",
-    ),
+    (Bits::B32, 0x1000, "ff542404", 0x1800, "6804100000ff642408"),
     (Bits::B16, 0x1000, "e8fd0f", 0x1800, "680310e9fa07"),
     // no CALL, a far one, one of another operand size, and through the stack pointer or below it
     (Bits::B64, 0x1000, "90", 0x2000, NO_CALL),
@@ -128,13 +122,7 @@ const CALLS: &[Call] = &[
 const NO_CALL: &str = "no near call whose return address can be pushed apart";
 
 /// The bytes of a CALL elsewhere in hexadecimal, or why there are none.
-fn called(
-    alloc: Global,
-    bits: Bits,
-    ip: u64,
-    digits: &str,
-    place: u64,
-) -> Result<String, Fail> {
+fn called(alloc: Global, bits: Bits, ip: u64, digits: &str, place: u64) -> Result<String, Fail> {
     let bytes = hex::decode(alloc, digits)?;
     let decoded = decode_in(bits, ip, &bytes)?;
     let item = Placed {
