@@ -1,6 +1,6 @@
-// Runs a 64-bit program, and executes each of its instructions out of line: in a slot of its own, whose code feddurzai_step or
-// feddurzai_step_unlisted makes. Nothing of the program
-// is changed, and no instruction is executed at its own address. Linux on x86-64; one process and one thread.
+// Runs a 64-bit program, and executes each of its instructions out of line: in a slot of its own, whose code feddurzai_step makes, or
+// feddurzai_step_unlisted where the opcode table has no instruction. Nothing of the program is changed, and no instruction is executed at its own
+// address. Linux on x86-64; one process and one thread.
 //
 //     cc -O2 -o step_program tools/stepping/step_program.c -I capi FOLDER/libfeddurzai.a
 //     step_program PROGRAM ARGUMENT..
