@@ -17,7 +17,7 @@ use Rattle.block_encoder.specs.ByPlan.{IsMovedBy, IsPlanAnswer}
 use Rattle.detour.specs.LawsBelow.{DetourLawsBelow}
 use Rattle.detour.specs.declared.error.DetourError.{DetourError}
 use Rattle.detour.specs.declared.error.DetourError.TheVariants.{Memory, BadCode, TooSmall, Ends, Entered, Wraps, TooFar}
-use Rattle.detour.specs.declared.start.StartTarget.{StartTarget}
+use Rattle.detour.specs.declared.start.TargetRule.{TargetRule}
 use Rattle.detour.specs.Taken.{AreReadFrom, AreTaken, taken_bytes, offset_at, reading_of_item}
 use Rattle.detour.specs.Trampoline.{IsTrampoline, block_items, trampoline_plan}
 use Rattle.detour.specs.Detours.{IsTakenAnswer, IsRelayOf, IsRelayBehind, relay_behind}
@@ -71,12 +71,12 @@ module _ (laws : DetourLawsBelow) (bits : Bits) where
       h.lists.bytes
       ∙ (ap (λ (l : List ℕ). bytes_of_blocks bits items p l (length p.spans)) (laws.one_least p h.layout k.layout h.least k.least) ∙ sym k.lists.bytes)
 
-  module _ (ip : ℕ) (code : List ℕ) (place : ℕ) (start : StartTarget) (items : List Placed) (m : MovedLists) (block : IsTrampoline bits ip items place start m) where
-    moved_place : (moved : Result MovedLists MoveError) → IsPlanAnswer bits (block_items bits ip items) (trampoline_plan bits ip items place start) moved
+  module _ (ip : ℕ) (code : List ℕ) (place : ℕ) (rule : TargetRule) (items : List Placed) (m : MovedLists) (block : IsTrampoline bits ip items place rule m) where
+    moved_place : (moved : Result MovedLists MoveError) → IsPlanAnswer bits (block_items bits ip items) (trampoline_plan bits ip items place rule) moved
         → (address : ℕ) → IsRelayOf place moved (Some address) → address ≡ place + length m.bytes
     moved_place (Ok n) h address e =
         behind_there place (length n.bytes) address e
-        ∙ ap (λ (bs : List ℕ). place + length bs) (one_block (block_items bits ip items) (trampoline_plan bits ip items place start) n m h block)
+        ∙ ap (λ (bs : List ℕ). place + length bs) (one_block (block_items bits ip items) (trampoline_plan bits ip items place rule) n m h block)
     moved_place (Err move_error.Memory) h address e = absurd e
     moved_place (Err (move_error.TooMany count)) h address e = absurd (cc)
     moved_place (Err (move_error.OldOrder at)) h address e = absurd (cc)
@@ -85,10 +85,10 @@ module _ (laws : DetourLawsBelow) (bits : Bits) where
 
     -- **a relay behind what a near jump takes is the one behind this block**
     pub relay_place : AreTaken bits ip code 5 items → (taken : Result (List Placed) DetourError) → IsTakenAnswer bits ip code 5 taken
-        → (address : ℕ) → IsRelayBehind bits ip place start taken (Some address) → address ≡ place + length m.bytes
+        → (address : ℕ) → IsRelayBehind bits ip place rule taken (Some address) → address ≡ place + length m.bytes
     relay_place are (Ok others) h address behind =
         let same : others ≡ items = one_taken ip code 5 others items h.0 are in
-        let moved = subst (λ (xs : List Placed). IsRelayBehind bits ip place start (Ok xs) (Some address)) same behind in
+        let moved = subst (λ (xs : List Placed). IsRelayBehind bits ip place rule (Ok xs) (Some address)) same behind in
         moved_place moved.0 moved.1.0 address moved.1.1
     relay_place are (Err Memory) h address behind = absurd behind
     relay_place are (Err (BadCode at error)) h address behind = absurd (cc)

@@ -1,6 +1,6 @@
 -- The plan of a trampoline is well formed.
-use Rattle.std.proofs.Common.{◌≡◌, ℕ, zero, suc, ◌+◌, ◌<◌, ◌≤◌, inl, inr, true, List, [], ◌∷◌, ◌++◌, length, map, Option, Some, None, arith, refl, sym, subst, ap, nat_lt, ◌^◌, take}
-use Rattle.std.specs.Prelude.{if◌then◌else◌, is_some, IsTrue}
+use Rattle.std.proofs.Common.{◌≡◌, ℕ, zero, suc, ◌+◌, ◌<◌, ◌≤◌, inl, inr, true, List, [], ◌∷◌, ◌++◌, length, map, Option, Some, None, arith, refl, sym, subst, ap, nat_lt, ◌&&◌, ◌^◌, take}
+use Rattle.std.specs.Prelude.{if◌then◌else◌, not, is_some, IsTrue}
 use Rattle.std.specs.List.{list_all, range_with_len}
 use Rattle.std.proofs.lemmas.Bool.{cases_Bool, lt-ltb}
 use Rattle.x86_values.specs.declared.Bits.{Bits}
@@ -19,7 +19,8 @@ use Rattle.move_goals.specs.Plan.{branch_with, plan_with}
 use Rattle.detour.specs.LawsBelow.{DetourLawsBelow}
 use Rattle.detour.specs.declared.start.StartTarget.{StartTarget}
 use Rattle.detour.specs.declared.start.StartTarget.TheVariants.{Moved, Hooked}
-use Rattle.detour.specs.Trampoline.{address_behind_taken, jump_back, back_items, block_items, trampoline_goal_among, moved_goal, trampoline_goal_at, plan_at}
+use Rattle.detour.specs.declared.start.TargetRule.{TargetRule}
+use Rattle.detour.specs.Trampoline.{address_behind_taken, jump_back, back_items, block_items, trampoline_goal_among, moved_goal, target_stays, trampoline_goal_at, plan_at}
 use Rattle.detour.specs.Taken.{taken_bytes, first_end, moved_count}
 use Rattle.detour.proofs.Front.{each_more}
 use Rattle.detour.proofs.Jumping.{jump-placed}
@@ -32,28 +33,28 @@ among_fit Moved count n (Some zero) t below = lt-ltb 0 count (below 0 refl)
 among_fit Hooked count n (Some zero) t below = refl
 among_fit start count n (Some (suc j)) t below = lt-ltb (suc j) count (below (suc j) refl)
 
-module _ (laws : DetourLawsBelow) (bits : Bits) (items : List Placed) (count : ℕ) (start : StartTarget) (within : count ≤ length items) where
+module _ (laws : DetourLawsBelow) (bits : Bits) (items : List Placed) (count : ℕ) (rule : TargetRule) (within : count ≤ length items) where
   moved_fit : (i : Instr) (target : Option ℕ) → target_of i ≡ target
-      → is_fit_goal (length items) (length (choices_of bits i)) (moved_goal start items count target) ≡ true
+      → is_fit_goal (length items) (length (choices_of bits i)) (moved_goal rule.start items count target) ≡ true
   moved_fit i None is = laws.plans.kept-fit bits (length items) i None is
   moved_fit i (Some t) is =
-      among_fit start (length items) (length (choices_of bits i)) (first_below (begins_at items t) count) t
+      among_fit rule.start (length items) (length (choices_of bits i)) (first_below (begins_at items t) count) t
       (λ j e. let b = (laws.firsts.some_below (begins_at items t) count j e).0 in omega (arith, b, within))
 
-  goal_fit : (k : ℕ) → is_fit_goal (length items) (length (choices_of bits (item_at items k).instr)) (trampoline_goal_at start items count k) ≡ true
+  goal_fit : (k : ℕ) → is_fit_goal (length items) (length (choices_of bits (item_at items k).instr)) (trampoline_goal_at rule items count k) ≡ true
   goal_fit k =
-      elim (cases_Bool (nat_lt k count)) [
+      elim (cases_Bool (nat_lt k count && not (target_stays rule (item_at items k).instr))) [
         | inl moved ↦ rw moved (moved_fit (item_at items k).instr (target_of (item_at items k).instr) refl)
         | inr back ↦ rw back (laws.plans.kept-fit bits (length items) (item_at items k).instr (target_of (item_at items k).instr) refl)
       ]
 
   -- **the items of the plan are fit**
   pub items_fit : ArePlaced bits items → length items ≤ 65536 → (branches : List Branch)
-      → branches ≡ map (branch_with bits items (trampoline_goal_at start items count)) (range_with_len 0 (length items))
+      → branches ≡ map (branch_with bits items (trampoline_goal_at rule items count)) (range_with_len 0 (length items))
       → IsTrue (list_all (is_fit_branch (length branches)) branches)
   unfolding plan_with
   items_fit placed few branches are =
-      let plan = laws.plans.well_formed_with bits (one_span items 0) items placed (trampoline_goal_at start items count) goal_fit few (laws.plans.one_span-of items 0) in
+      let plan = laws.plans.well_formed_with bits (one_span items 0) items placed (trampoline_goal_at rule items count) goal_fit few (laws.plans.one_span-of items 0) in
       subst (λ (bs : List Branch). IsTrue (list_all (is_fit_branch (length bs)) bs)) (sym are) plan.fit
 
 -- ---- the instructions of a trampoline
@@ -114,6 +115,6 @@ module _ (laws : DetourLawsBelow) where
       (jump-placed laws bits (address_behind_taken bits ip items) (jump_back bits (address_behind_taken bits ip items)).len (below_width bits (ip + taken_bytes items)) refl)
 
   -- the plan has as many items
-  pub plan_count : (bits : Bits) (items : List Placed) (count place : ℕ) (start : StartTarget) → length (plan_at bits items count place start).items ≡ length items
+  pub plan_count : (bits : Bits) (items : List Placed) (count place : ℕ) (rule : TargetRule) → length (plan_at bits items count place rule).items ≡ length items
   unfolding plan_at
-  plan_count bits items count place start = laws.fragments.plan-count bits (one_span items place) items (trampoline_goal_at start items count)
+  plan_count bits items count place rule = laws.fragments.plan-count bits (one_span items place) items (trampoline_goal_at rule items count)

@@ -14,7 +14,7 @@ use Rattle.block_encoder.specs.Moved.{MovedLists}
 use Rattle.detour.specs.LawsBelow.{DetourLawsBelow}
 use Rattle.detour.specs.declared.parts.JumpForm.{JumpForm}
 use Rattle.detour.specs.declared.parts.JumpForm.TheVariants.{Near, Relay, Absolute}
-use Rattle.detour.specs.declared.start.StartTarget.{StartTarget}
+use Rattle.detour.specs.declared.start.TargetRule.{TargetRule}
 use Rattle.detour.specs.Jumps.{near_jump_to, IsNearJump, absolute_jump}
 use Rattle.detour.specs.Taken.{AreTaken, moved_count}
 use Rattle.detour.specs.Trampoline.{IsTrampoline, block_items, trampoline_goal_at, plan_at, trampoline_plan}
@@ -35,14 +35,14 @@ module _ (laws : DetourLawsBelow) where
       (laws.encodings.encoded-plain bits at (near_jump_to bits target) bytes (jump-four bits target) e)
 
   -- **the patch is read as the near jump**
-  pub patch_read : (bits : Bits) (ip : ℕ) (code : List ℕ) (to place : ℕ) (start : StartTarget) (form : JumpForm) (bytes : List ℕ) (relay : Option ℕ)
-      → IsJumpOf bits ip code to place start form bytes relay → (taken : ℕ) → IsPatchRead bits ip to form bytes relay (patch_of bytes taken)
+  pub patch_read : (bits : Bits) (ip : ℕ) (code : List ℕ) (to place : ℕ) (rule : TargetRule) (form : JumpForm) (bytes : List ℕ) (relay : Option ℕ)
+      → IsJumpOf bits ip code to place rule form bytes relay → (taken : ℕ) → IsPatchRead bits ip to form bytes relay (patch_of bytes taken)
   unfolding patch_of
-  patch_read bits ip code to place start Near bytes relay h taken = near_read bits ip to bytes (replicate (taken - length bytes) 0xCC) h.0
-  patch_read bits ip code to place start Relay bytes relay h taken =
+  patch_read bits ip code to place rule Near bytes relay h taken = near_read bits ip to bytes (replicate (taken - length bytes) 0xCC) h.0
+  patch_read bits ip code to place rule Relay bytes relay h taken =
       subst (λ (r : Option ℕ). IfSome r (λ address. IsRead bits ip (bytes ++ replicate (taken - length bytes) 0xCC) (jump_reading bits address bytes))) (sym h.1.1.0)
       (near_read bits ip h.1.0 bytes (replicate (taken - length bytes) 0xCC) h.1.1.1.1)
-  patch_read bits ip code to place start Absolute bytes relay h taken = (
+  patch_read bits ip code to place rule Absolute bytes relay h taken = (
     h.0.0,
     subst (λ (bs : List ℕ). IsAbsoluteRead ip to (bs ++ replicate (taken - length bs) 0xCC)) (sym h.1.1.0)
         (absolute_read laws ip to (replicate (taken - length (absolute_jump to)) 0xCC)),
@@ -61,32 +61,32 @@ module _ (laws : DetourLawsBelow) where
       )
 
   -- **the relay is behind the block, and is read as the jump to the replacement**
-  pub relay_read : (bits : Bits) (ip : ℕ) (code : List ℕ) (to place : ℕ) (start : StartTarget) (form : JumpForm) (bytes : List ℕ) (relay : Option ℕ)
-      → IsJumpOf bits ip code to place start form bytes relay → (items : List Placed) → AreTaken bits ip code (length bytes) items → (m : MovedLists)
-      → IsTrampoline bits ip items place start m → IsRelayRead to place (length m.bytes) relay (m.bytes ++ relay_bytes relay to)
-  relay_read bits ip code to place start Near bytes relay h items are m block = no_relay to place m.bytes relay h.1
-  relay_read bits ip code to place start Relay bytes relay h items are m block =
+  pub relay_read : (bits : Bits) (ip : ℕ) (code : List ℕ) (to place : ℕ) (rule : TargetRule) (form : JumpForm) (bytes : List ℕ) (relay : Option ℕ)
+      → IsJumpOf bits ip code to place rule form bytes relay → (items : List Placed) → AreTaken bits ip code (length bytes) items → (m : MovedLists)
+      → IsTrampoline bits ip items place rule m → IsRelayRead to place (length m.bytes) relay (m.bytes ++ relay_bytes relay to)
+  relay_read bits ip code to place rule Near bytes relay h items are m block = no_relay to place m.bytes relay h.1
+  relay_read bits ip code to place rule Relay bytes relay h items are m block =
       let five : length bytes ≡ 5 = near-five laws ip h.1.0 bytes (subst (λ (b : Bits). IsNearJump b ip h.1.0 bytes) h.0.0 h.1.1.1.1) in
       let tried = h.1.1.1.0 in
       relay_there to place m.bytes relay h.1.0 h.1.1.0
-      (relay_place laws bits ip code place start items m block (subst (λ (n : ℕ). AreTaken bits ip code n items) five are) tried.0 tried.1.0 h.1.0 tried.1.1)
-  relay_read bits ip code to place start Absolute bytes relay h items are m block = no_relay to place m.bytes relay h.1.1.1
+      (relay_place laws bits ip code place rule items m block (subst (λ (n : ℕ). AreTaken bits ip code n items) five are) tried.0 tried.1.0 h.1.0 tried.1.1)
+  relay_read bits ip code to place rule Absolute bytes relay h items are m block = no_relay to place m.bytes relay h.1.1.1
 
   -- **the trampoline is read as the images of its instructions, each at its place, going to its goal**
-  pub trampoline_read : (bits : Bits) (ip : ℕ) (items : List Placed) (place : ℕ) (start : StartTarget) → ArePlaced bits items
-      → (m : MovedLists) (moved : IsTrampoline bits ip items place start m) → IsTrampolineRead bits ip items place start moved.layout
+  pub trampoline_read : (bits : Bits) (ip : ℕ) (items : List Placed) (place : ℕ) (rule : TargetRule) → ArePlaced bits items
+      → (m : MovedLists) (moved : IsTrampoline bits ip items place rule m) → IsTrampolineRead bits ip items place rule moved.layout
   unfolding plan_at
-  trampoline_read bits ip items place start placed m moved =
+  trampoline_read bits ip items place rule placed m moved =
       let bs = block_items bits ip items in
-      let goals = trampoline_goal_at start bs (moved_count items) in
+      let goals = trampoline_goal_at rule bs (moved_count items) in
       let spans = one_span bs place in
       let of = laws.plans.one_span-of bs place in
       let well : ArePlaced bits bs = block_placed laws bits ip items placed in
       record {
         images = laws.moved.read bits bs spans goals of well m moved 0 (omega arith);
-        places = λ k lt. subst (λ (b : ℕ). StandsAtPlace bits bs (trampoline_plan bits ip items place start) moved.layout b k) (in_first bs place k lt)
+        places = λ k lt. subst (λ (b : ℕ). StandsAtPlace bits bs (trampoline_plan bits ip items place rule) moved.layout b k) (in_first bs place k lt)
             (laws.moved.places bits bs spans goals of m moved k lt);
-        goals = λ k lt. subst (λ (b : ℕ). GoesToGoal bits bs (trampoline_plan bits ip items place start) moved.layout b k) (in_first bs place k lt) (record {
+        goals = λ k lt. subst (λ (b : ℕ). GoesToGoal bits bs (trampoline_plan bits ip items place rule) moved.layout b k) (in_first bs place k lt) (record {
           stays = λ none. laws.moved.stays bits bs spans goals well moved.layout k lt none;
           address = λ none. laws.moved.address bits bs spans goals well moved.layout k lt none;
           near = λ t some near. laws.moved.near bits bs spans goals well moved.layout moved.least.closed.is_layout k t lt some near;

@@ -14,7 +14,7 @@ use Rattle.detour.specs.declared.error.DetourError.TheVariants.{Memory, BadCode,
 use Rattle.detour.specs.declared.parts.JumpForm.{JumpForm}
 use Rattle.detour.specs.declared.parts.JumpForm.TheVariants.{Near, Relay, Absolute}
 use Rattle.detour.specs.declared.parts.Parts.{Parts}
-use Rattle.detour.specs.declared.start.StartTarget.{StartTarget}
+use Rattle.detour.specs.declared.start.TargetRule.{TargetRule}
 use Rattle.detour.specs.Taken.{AreTaken, IsBadCode, IsTooSmall, IsCodeBehind, taken_bytes, first_end, first_code_behind}
 use Rattle.detour.specs.Jumps.{IsNearJump, IsOutOfReach, absolute_jump}
 use Rattle.detour.specs.Entries.{IsFirstEntry, IsNotEntered}
@@ -45,17 +45,17 @@ IsRelayOf place (Err move_error.Memory) relay = ⊥
 IsRelayOf place (Err why) relay = relay ≡ None
 
 -- the relay of what is taken, if there is one
-abbrev pub IsRelayBehind : Bits → ℕ → ℕ → StartTarget → Result (List Placed) DetourError → Option ℕ → Type 0
-IsRelayBehind bits ip place start (Ok items) relay =
+abbrev pub IsRelayBehind : Bits → ℕ → ℕ → TargetRule → Result (List Placed) DetourError → Option ℕ → Type 0
+IsRelayBehind bits ip place rule (Ok items) relay =
     (moved : Result MovedLists MoveError)
-    × (IsPlanAnswer bits (block_items bits ip items) (trampoline_plan bits ip items place start) moved × IsRelayOf place moved relay)
-IsRelayBehind bits ip place start (Err Memory) relay = ⊥
-IsRelayBehind bits ip place start (Err why) relay = relay ≡ None
+    × (IsPlanAnswer bits (block_items bits ip items) (trampoline_plan bits ip items place rule) moved × IsRelayOf place moved relay)
+IsRelayBehind bits ip place rule (Err Memory) relay = ⊥
+IsRelayBehind bits ip place rule (Err why) relay = relay ≡ None
 
 -- the address of the relay behind the trampoline of what a near jump of 5 bytes takes, if there is one
-abbrev pub IsRelay : Bits → ℕ → List ℕ → ℕ → StartTarget → Option ℕ → Type 0
-IsRelay bits ip code place start relay =
-    (taken : Result (List Placed) DetourError) × (IsTakenAnswer bits ip code 5 taken × IsRelayBehind bits ip place start taken relay)
+abbrev pub IsRelay : Bits → ℕ → List ℕ → ℕ → TargetRule → Option ℕ → Type 0
+IsRelay bits ip code place rule relay =
+    (taken : Result (List Placed) DetourError) × (IsTakenAnswer bits ip code 5 taken × IsRelayBehind bits ip place rule taken relay)
 
 -- ---- the jump
 
@@ -66,19 +66,19 @@ pub record JumpParts : Type 0 where
   pub relay : Option ℕ
 
 -- a jump of a form from the function to the replacement
-abbrev pub IsJumpOf : Bits → ℕ → List ℕ → ℕ → ℕ → StartTarget → JumpForm → List ℕ → Option ℕ → Type 0
-IsJumpOf bits ip code to place start Near bytes relay = IsNearJump bits ip to bytes × (relay ≡ None)
-IsJumpOf bits ip code to place start Relay bytes relay =
+abbrev pub IsJumpOf : Bits → ℕ → List ℕ → ℕ → ℕ → TargetRule → JumpForm → List ℕ → Option ℕ → Type 0
+IsJumpOf bits ip code to place rule Near bytes relay = IsNearJump bits ip to bytes × (relay ≡ None)
+IsJumpOf bits ip code to place rule Relay bytes relay =
     ((bits ≡ B64) × IsOutOfReach bits ip to)
-    × ((address : ℕ) × ((relay ≡ Some address) × (IsRelay bits ip code place start (Some address) × IsNearJump bits ip address bytes)))
-IsJumpOf bits ip code to place start Absolute bytes relay =
+    × ((address : ℕ) × ((relay ≡ Some address) × (IsRelay bits ip code place rule (Some address) × IsNearJump bits ip address bytes)))
+IsJumpOf bits ip code to place rule Absolute bytes relay =
     ((bits ≡ B64) × IsOutOfReach bits ip to)
-    × (((tried : Option ℕ) × (IsRelay bits ip code place start tried × IfSome tried (IsOutOfReach bits ip)))
+    × (((tried : Option ℕ) × (IsRelay bits ip code place rule tried × IfSome tried (IsOutOfReach bits ip)))
     × ((bytes ≡ absolute_jump to) × (relay ≡ None)))
 
 -- the first of the three forms that reaches
-abbrev pub IsFirstJump : Bits → ℕ → List ℕ → ℕ → ℕ → StartTarget → JumpParts → Type 0
-IsFirstJump bits ip code to place start jump = IsJumpOf bits ip code to place start jump.form jump.bytes jump.relay
+abbrev pub IsFirstJump : Bits → ℕ → List ℕ → ℕ → ℕ → TargetRule → JumpParts → Type 0
+IsFirstJump bits ip code to place rule jump = IsJumpOf bits ip code to place rule jump.form jump.bytes jump.relay
 
 -- ---- the detour
 
@@ -108,57 +108,61 @@ parts_of items place m relay = record {
 }
 
 -- the detour of a function: the first jump that reaches over what it takes, where nothing else enters, and the trampoline
-pub record IsDetour (bits : Bits) (ip : ℕ) (code : List ℕ) (to place : ℕ) (start : StartTarget) (d : DetourState) : Type 0 where
+pub record IsDetour (bits : Bits) (ip : ℕ) (code : List ℕ) (to place : ℕ) (rule : TargetRule) (d : DetourState) : Type 0 where
   pub jump : JumpParts
-  pub first : IsFirstJump bits ip code to place start jump
+  pub first : IsFirstJump bits ip code to place rule jump
   pub items : List Placed
   pub are_taken : AreTaken bits ip code (length jump.bytes) items
   pub whole : first_code_behind items ≡ None
   pub closed : IsNotEntered (code_bytes bits ip code) items
   pub moved : MovedLists
-  pub block : IsTrampoline bits ip items place start moved
+  pub block : IsTrampoline bits ip items place rule moved
   pub form : d.form ≡ jump.form
   pub taken : d.taken ≡ taken_bytes items
   pub patch : d.patch ≡ patch_of jump.bytes (taken_bytes items)
   pub trampoline : d.trampoline ≡ moved.bytes ++ relay_bytes jump.relay to
   pub parts : d.parts ≡ parts_of items place moved jump.relay
   pub patch_read : IsPatchRead bits ip to jump.form jump.bytes jump.relay d.patch
-  pub trampoline_read : IsTrampolineRead bits ip items place start block.layout
+  pub trampoline_read : IsTrampolineRead bits ip items place rule block.layout
   pub relay_read : IsRelayRead to place (length moved.bytes) jump.relay d.trampoline
 
 -- nothing is taken for the first jump that reaches, for this cause
-abbrev pub IsNotTaken : Bits → ℕ → List ℕ → ℕ → ℕ → StartTarget → DetourError → Type 0
-IsNotTaken bits ip code to place start why =
-    (jump : JumpParts) × (IsFirstJump bits ip code to place start jump × IsTakenAnswer bits ip code (length jump.bytes) (Err why))
+abbrev pub IsNotTaken : Bits → ℕ → List ℕ → ℕ → ℕ → TargetRule → DetourError → Type 0
+IsNotTaken bits ip code to place rule why =
+    (jump : JumpParts) × (IsFirstJump bits ip code to place rule jump × IsTakenAnswer bits ip code (length jump.bytes) (Err why))
 
 -- what is taken for it is entered, at first from an offset, to another
-pub record IsEntered (bits : Bits) (ip : ℕ) (code : List ℕ) (to place : ℕ) (start : StartTarget) (from target : ℕ) : Type 0 where
+pub record IsEntered (bits : Bits) (ip : ℕ) (code : List ℕ) (to place : ℕ) (rule : TargetRule) (from target : ℕ) : Type 0 where
   pub jump : JumpParts
-  pub first : IsFirstJump bits ip code to place start jump
+  pub first : IsFirstJump bits ip code to place rule jump
   pub items : List Placed
   pub are_taken : AreTaken bits ip code (length jump.bytes) items
   pub whole : first_code_behind items ≡ None
   pub entry : IsFirstEntry (code_bytes bits ip code) items from target
 
 -- what is taken for it is not entered, and not moved for this cause
-pub record IsNotMoved (bits : Bits) (ip : ℕ) (code : List ℕ) (to place : ℕ) (start : StartTarget) (why : MoveError) : Type 0 where
+pub record IsNotMoved (bits : Bits) (ip : ℕ) (code : List ℕ) (to place : ℕ) (rule : TargetRule) (why : MoveError) : Type 0 where
   pub jump : JumpParts
-  pub first : IsFirstJump bits ip code to place start jump
+  pub first : IsFirstJump bits ip code to place rule jump
   pub items : List Placed
   pub are_taken : AreTaken bits ip code (length jump.bytes) items
   pub whole : first_code_behind items ≡ None
   pub closed : IsNotEntered (code_bytes bits ip code) items
-  pub refused : IsPlanAnswer bits (block_items bits ip items) (trampoline_plan bits ip items place start) (Err why)
+  pub refused : IsPlanAnswer bits (block_items bits ip items) (trampoline_plan bits ip items place rule) (Err why)
 
 -- the answer, by the addresses in the mode
-abbrev pub IsAnswerTo : Bits → ℕ → List ℕ → ℕ → ℕ → StartTarget → Result DetourState DetourError → Type 0
-IsAnswerTo bits ip code to place start (Ok d) = IsDetour bits ip code to place start d
-IsAnswerTo bits ip code to place start (Err (Entered from target)) = IsEntered bits ip code to place start from target
-IsAnswerTo bits ip code to place start (Err (Wraps end)) = IsNotMoved bits ip code to place start (move_error.Wraps end)
-IsAnswerTo bits ip code to place start (Err (TooFar at target)) = IsNotMoved bits ip code to place start (move_error.TooFar at target)
-IsAnswerTo bits ip code to place start (Err Memory) = Unit {0}
-IsAnswerTo bits ip code to place start (Err why) = IsNotTaken bits ip code to place start why
+abbrev pub IsAnswerTo : Bits → ℕ → List ℕ → ℕ → ℕ → TargetRule → Result DetourState DetourError → Type 0
+IsAnswerTo bits ip code to place rule (Ok d) = IsDetour bits ip code to place rule d
+IsAnswerTo bits ip code to place rule (Err (Entered from target)) = IsEntered bits ip code to place rule from target
+IsAnswerTo bits ip code to place rule (Err (Wraps end)) = IsNotMoved bits ip code to place rule (move_error.Wraps end)
+IsAnswerTo bits ip code to place rule (Err (TooFar at target)) = IsNotMoved bits ip code to place rule (move_error.TooFar at target)
+IsAnswerTo bits ip code to place rule (Err Memory) = Unit {0}
+IsAnswerTo bits ip code to place rule (Err why) = IsNotTaken bits ip code to place rule why
+
+-- the rule for targets: what is asked for the start of the function, and every other target follows a moved instruction
+abbrev pub all_follow : StartTarget → TargetRule
+all_follow start = record { start = start; rip_stays = false }
 
 -- the answer: the address of the replacement is taken modulo 2 to the number of bits of the mode
 abbrev pub IsDetourAnswer : Bits → ℕ → List ℕ → ℕ → ℕ → StartTarget → Result DetourState DetourError → Type 0
-IsDetourAnswer bits ip code to place start answer = IsAnswerTo bits ip code (modulo_width bits to) place start answer
+IsDetourAnswer bits ip code to place start answer = IsAnswerTo bits ip code (modulo_width bits to) place (all_follow start) answer

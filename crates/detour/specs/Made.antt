@@ -12,7 +12,7 @@ use Rattle.block_encoder.specs.Planned.{move_error_of}
 use Rattle.detour.specs.declared.making.Jump.{Jump}
 use Rattle.detour.specs.declared.parts.JumpForm.{JumpForm}
 use Rattle.detour.specs.declared.parts.JumpForm.TheVariants.{Near, Relay, Absolute}
-use Rattle.detour.specs.declared.start.StartTarget.{StartTarget}
+use Rattle.detour.specs.declared.start.TargetRule.{TargetRule}
 use Rattle.detour.specs.Reading.{IsTakenFit}
 use Rattle.detour.specs.Jumps.{IsNearJump, IsOutOfReach, absolute_jump}
 use Rattle.detour.specs.Trampoline.{IsTrampoline, block_items, trampoline_plan}
@@ -48,14 +48,14 @@ pub record IsPutTogether (to place : ℕ) (jump : Jump) (t : Taken) (m : MovedLi
   pub parts : d.parts ≡ parts_of t.items.items place m jump.relay
 
 -- what is taken is moved and put together, or not moved for this cause
-abbrev pub IsLaidBy : Bits → ℕ → ℕ → ℕ → StartTarget → Jump → Taken → DetourState → Type 0
-IsLaidBy bits ip to place start jump t d =
-    (m : MovedLists) × (IsTrampoline bits ip t.items.items place start m × IsPutTogether to place jump t m d)
+abbrev pub IsLaidBy : Bits → ℕ → ℕ → ℕ → TargetRule → Jump → Taken → DetourState → Type 0
+IsLaidBy bits ip to place rule jump t d =
+    (m : MovedLists) × (IsTrampoline bits ip t.items.items place rule m × IsPutTogether to place jump t m d)
 
 -- what is taken gives the detour, or the moving of it is refused for the cause that the error names
-abbrev pub IsDetourLaid : Bits → ℕ → ℕ → ℕ → StartTarget → Jump → Taken → Result DetourState DetourError → Type 0
-IsDetourLaid bits ip to place start jump t (Ok d) = IsLaidBy bits ip to place start jump t d
-IsDetourLaid bits ip to place start jump t (Err why) =
+abbrev pub IsDetourLaid : Bits → ℕ → ℕ → ℕ → TargetRule → Jump → Taken → Result DetourState DetourError → Type 0
+IsDetourLaid bits ip to place rule jump t (Ok d) = IsLaidBy bits ip to place rule jump t d
+IsDetourLaid bits ip to place rule jump t (Err why) =
     (why ≡ Memory) ⊎ ((cause : PlanError) × ((why ≡ detour_error_of cause)
-    × IsPlanAnswer bits (block_items bits ip t.items.items) (trampoline_plan bits ip t.items.items place start)
+    × IsPlanAnswer bits (block_items bits ip t.items.items) (trampoline_plan bits ip t.items.items place rule)
     (Err (move_error_of cause))))

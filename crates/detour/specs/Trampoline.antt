@@ -1,7 +1,9 @@
 -- The trampoline of a detour: the moved instructions, and the jump back, by a plan of their own.
-use Rattle.std.specs.Prelude.{ℕ, zero, suc, ◌+◌, nat_lt, is_some, if◌then◌else◌, List, [], ◌∷◌, ◌++◌, take, Option, Some, None}
+use Rattle.std.specs.Prelude.{ℕ, zero, suc, ◌+◌, nat_lt, Bool, not, ◌&&◌, is_some, if◌then◌else◌, List, [], ◌∷◌, ◌++◌, take, Option, Some, None}
 use Rattle.x86_values.specs.declared.Bits.{Bits}
+use Rattle.x86_values.specs.declared.Instr.{Instr}
 use Rattle.x86_values.specs.Wrapping.{modulo_width}
+use Rattle.operand_info.specs.Operands.{near_value, first_value}
 use Rattle.branch_sizes.specs.declared.plan.Goal.{Goal}
 use Rattle.branch_sizes.specs.declared.plan.Goal.TheVariants.{Inside, Outside}
 use Rattle.branch_sizes.specs.Plan.{BlockPlan}
@@ -14,6 +16,7 @@ use Rattle.block_encoder.specs.Moved.{MovedLists}
 use Rattle.block_encoder.specs.ByPlan.{IsMovedBy}
 use Rattle.detour.specs.declared.start.StartTarget.{StartTarget}
 use Rattle.detour.specs.declared.start.StartTarget.TheVariants.{Moved, Hooked}
+use Rattle.detour.specs.declared.start.TargetRule.{TargetRule}
 use Rattle.detour.specs.Jumps.{near_jump_to}
 use Rattle.detour.specs.Taken.{taken_bytes, moved_count, first_end}
 
@@ -61,20 +64,26 @@ abbrev pub moved_goal : StartTarget → List Placed → ℕ → Option ℕ → G
 moved_goal start items count None = kept_goal None
 moved_goal start items count (Some t) = trampoline_goal start items count t
 
--- the goal of instruction k of the trampoline: the jump back behind the moved ones goes to its own target
-abbrev pub trampoline_goal_at : StartTarget → List Placed → ℕ → ℕ → Goal
-trampoline_goal_at start items count k =
-    if nat_lt k count then moved_goal start items count (target_of (item_at items k).instr)
+-- the target of the instruction stays, whatever stands there: addresses at RIP and EIP stay, and it is no near branch
+abbrev pub target_stays : TargetRule → Instr → Bool
+target_stays rule i = rule.rip_stays && not (is_some (first_value near_value i))
+
+-- the goal of instruction k of the trampoline: that of a moved one is sought among the moved ones, unless its target stays; the jump back behind them
+-- goes to its own target
+abbrev pub trampoline_goal_at : TargetRule → List Placed → ℕ → ℕ → Goal
+trampoline_goal_at rule items count k =
+    if nat_lt k count && not (target_stays rule (item_at items k).instr)
+    then moved_goal rule.start items count (target_of (item_at items k).instr)
     else kept_goal (target_of (item_at items k).instr)
 
 -- the plan of the trampoline at a place, of instructions of which so many are moved
-unfoldable pub plan_at : Bits → List Placed → ℕ → ℕ → StartTarget → BlockPlan
-plan_at bits items count place start = plan_with bits (one_span items place) items (trampoline_goal_at start items count)
+unfoldable pub plan_at : Bits → List Placed → ℕ → ℕ → TargetRule → BlockPlan
+plan_at bits items count place rule = plan_with bits (one_span items place) items (trampoline_goal_at rule items count)
 
 -- the plan of what is taken
-abbrev pub trampoline_plan : Bits → ℕ → List Placed → ℕ → StartTarget → BlockPlan
-trampoline_plan bits ip items place start = plan_at bits (block_items bits ip items) (moved_count items) place start
+abbrev pub trampoline_plan : Bits → ℕ → List Placed → ℕ → TargetRule → BlockPlan
+trampoline_plan bits ip items place rule = plan_at bits (block_items bits ip items) (moved_count items) place rule
 
 -- the moved instructions and the jump back in the least layout, each reaching its goal, with gap and slots behind them
-abbrev pub IsTrampoline : Bits → ℕ → List Placed → ℕ → StartTarget → MovedLists → Type 0
-IsTrampoline bits ip items place start m = IsMovedBy bits (block_items bits ip items) (trampoline_plan bits ip items place start) m
+abbrev pub IsTrampoline : Bits → ℕ → List Placed → ℕ → TargetRule → MovedLists → Type 0
+IsTrampoline bits ip items place rule m = IsMovedBy bits (block_items bits ip items) (trampoline_plan bits ip items place rule) m

@@ -1,7 +1,7 @@
 //! Making a detour.
 
 ghost use Rattle.std.specs.Prelude.{◌≡◌, ◌≤◌, ◌<◌, ◌++◌, ◌^◌, None, Ok, length, IfOk, IfErr};
-ghost use Rattle.x86_values.specs.Wrapping.{width};
+ghost use Rattle.x86_values.specs.Wrapping.{modulo_width, width};
 ghost use Rattle.detour.specs.declared.error.DetourError.TheVariants.{Memory};
 ghost use Rattle.detour.specs.Detours as spec;
 ghost use Rattle.detour.specs.Detours.{IsRelay, IsRelayBehind, IsJumpOf, IsAnswerTo, IsDetourAnswer, relay_bytes};
@@ -16,7 +16,7 @@ use crate::error::DetourError;
 use crate::jumps::{ABSOLUTE_LEN, NEAR_LEN, absolute_jump, near_jump};
 use crate::laws_below::laws_below;
 use crate::parts::{Detour, JumpForm, Parts};
-use crate::start::StartTarget;
+use crate::start::{StartTarget, TargetRule};
 use crate::taken::{Taken, first_code_behind, first_end, offset_at, take};
 use crate::trampoline::lay_trampoline;
 use arrayvec::ArrayVec;
@@ -99,13 +99,13 @@ fn relay_of(
     ip: u64,
     taken: &Taken,
     place: u64,
-    start: StartTarget,
+    rule: TargetRule,
 ) -> Result<Option<u64>, DetourError>
     requires { IsTakenFit bits taken.now }
-    ensures relay { IfOk result (λ relay. IsRelayBehind bits ip place start (Ok taken.now.items.items) relay) }
+    ensures relay { IfOk result (λ relay. IsRelayBehind bits ip place rule (Ok taken.now.items.items) relay) }
     ensures refused { IfErr result (λ why. why ≡ Memory) }
 {
-    match lay_trampoline(alloc, bits, ip, taken, place, start) {
+    match lay_trampoline(alloc, bits, ip, taken, place, rule) {
         Ok(moved) => Ok(relay_behind(place, moved.bytes().len())),
         Err(why) => no_relay_behind(why),
     }
@@ -118,13 +118,13 @@ fn relay_address(
     ip: u64,
     code: &[u8],
     place: u64,
-    start: StartTarget,
+    rule: TargetRule,
 ) -> Result<Option<u64>, DetourError>
-    ensures relay { IfOk result (λ relay. IsRelay bits ip code.now place start relay) }
+    ensures relay { IfOk result (λ relay. IsRelay bits ip code.now place rule relay) }
     ensures refused { IfErr result (λ why. why ≡ Memory) }
 {
     match take_whole(alloc, bits, ip, code, NEAR_LEN) {
-        Ok(taken) => relay_of(alloc, bits, ip, &taken, place, start),
+        Ok(taken) => relay_of(alloc, bits, ip, &taken, place, rule),
         Err(why) => no_relay_for(why),
     }
 }
@@ -166,10 +166,10 @@ fn jump_for(
     code: &[u8],
     to: u64,
     place: u64,
-    start: StartTarget,
+    rule: TargetRule,
 ) -> Result<Jump, DetourError>
     requires { to < 2 ^ width bits }
-    ensures jump { IfOk result (λ jump. IsJumpOf bits ip code.now to place start jump.form jump.bytes.items jump.relay) }
+    ensures jump { IfOk result (λ jump. IsJumpOf bits ip code.now to place rule jump.form jump.bytes.items jump.relay) }
     ensures short { IfOk result (λ jump. length jump.bytes.items ≤ 15) }
     ensures refused { IfErr result (λ why. why ≡ Memory) }
 {
@@ -180,7 +180,7 @@ fn jump_for(
             bytes,
             relay: None,
         }),
-        None => match relay_address(alloc, bits, ip, code, place, start) {
+        None => match relay_address(alloc, bits, ip, code, place, rule) {
             Ok(relay) => Ok(far_jump(bits, ip, to, relay)),
             Err(_) => Err(DetourError::Memory),
         },
@@ -283,15 +283,15 @@ fn lay_detour(
     ip: u64,
     to: u64,
     place: u64,
-    start: StartTarget,
+    rule: TargetRule,
     jump: &Jump,
     taken: &Taken,
 ) -> Result<Detour, DetourError>
     requires fit { IsTakenFit bits taken.now }
     requires fits { length jump.now.bytes.items ≤ taken.now.len }
-    ensures { IsDetourLaid bits ip to place start jump.now taken.now result }
+    ensures { IsDetourLaid bits ip to place rule jump.now taken.now result }
 {
-    match lay_trampoline(alloc, bits, ip, taken, place, start) {
+    match lay_trampoline(alloc, bits, ip, taken, place, rule) {
         Ok(moved) => put_together(alloc, to, place, jump, taken, &moved),
         Err(why) => Err(move_refusal(why)),
     }
@@ -305,13 +305,13 @@ fn detour_by(
     code: &[u8],
     to: u64,
     place: u64,
-    start: StartTarget,
+    rule: TargetRule,
     jump: &Jump,
 ) -> Result<Detour, DetourError>
     requires size { length code.now ≤ 1048576 }
-    requires jump { IsJumpOf bits ip code.now to place start jump.now.form jump.now.bytes.items jump.now.relay }
+    requires jump { IsJumpOf bits ip code.now to place rule jump.now.form jump.now.bytes.items jump.now.relay }
     requires short { length jump.now.bytes.items ≤ 15 }
-    ensures { IsAnswerTo bits ip code.now to place start result }
+    ensures { IsAnswerTo bits ip code.now to place rule result }
 {
     laws_below();
     let taken = match take_whole(alloc, bits, ip, code, jump.bytes.len()) {
@@ -319,12 +319,32 @@ fn detour_by(
         Err(why) => return Err(why),
     };
     match first_entry(alloc, bits, ip, code, &taken) {
-        Ok(None) => lay_detour(alloc, bits, ip, to, place, start, jump, &taken),
+        Ok(None) => lay_detour(alloc, bits, ip, to, place, rule, jump, &taken),
         Ok(Some((from, target))) => Err(DetourError::Entered {
             from: u64::from(from),
             target: target as u64,
         }),
         Err(FlowError::Memory) => Err(DetourError::Memory),
+    }
+}
+
+/// Makes a detour under a rule for the targets of moved instructions.
+pub(crate) fn detour_under(
+    alloc: Global,
+    bits: Bits,
+    ip: u64,
+    code: &[u8],
+    to: u64,
+    place: u64,
+    rule: TargetRule,
+) -> Result<Detour, DetourError>
+    requires { length code.now ≤ 1048576 }
+    ensures { IsAnswerTo bits ip code.now (modulo_width bits to) place rule result }
+{
+    let to = wrap(bits, u128::from(to));
+    match jump_for(alloc, bits, ip, code, to, place, rule) {
+        Ok(jump) => detour_by(alloc, bits, ip, code, to, place, rule, &jump),
+        Err(_) => Err(DetourError::Memory),
     }
 }
 
@@ -372,9 +392,9 @@ pub fn detour(
     requires { length code.now ≤ 1048576 }
     ensures { IsDetourAnswer bits ip code.now to place start result }
 {
-    let to = wrap(bits, u128::from(to));
-    match jump_for(alloc, bits, ip, code, to, place, start) {
-        Ok(jump) => detour_by(alloc, bits, ip, code, to, place, start, &jump),
-        Err(_) => Err(DetourError::Memory),
-    }
+    let rule = TargetRule {
+        start,
+        rip_stays: false,
+    };
+    detour_under(alloc, bits, ip, code, to, place, rule)
 }

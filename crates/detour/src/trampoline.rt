@@ -4,6 +4,7 @@ ghost use Rattle.std.specs.Prelude.{◌≡◌, ◌<◌, ◌≤◌, length, IfOk,
 ghost use Rattle.move_goals.specs.Items.{ArePlaced, first_below};
 ghost use Rattle.move_goals.specs.Goals.{begins_at};
 ghost use Rattle.move_goals.specs.Plan.{branch_with};
+ghost use Rattle.move_goals.specs.Plan as plan;
 ghost use Rattle.block_encoder.specs.ByPlan.{IsPlanAnswer};
 ghost use Rattle.block_encoder.specs.Planned.{as_moving};
 ghost use Rattle.detour.specs.Reading.{IsTakenFit};
@@ -11,15 +12,16 @@ ghost use Rattle.detour.specs.Trampoline as spec;
 
 use crate::jumps::jump_back;
 use crate::laws_below::laws_below;
-use crate::start::StartTarget;
+use crate::start::{StartTarget, TargetRule};
 use crate::taken::{Taken, first_end, moved_count};
 use block_encoder::{MovedBlocks, PlanError, move_planned};
 use branch_sizes::{Branch, Goal, Plan};
 use move_goals::Placed;
 use move_goals::branch_forms::choices_of;
 use move_goals::moved_targets::target_of;
+use operand_info::near_target;
 use std::alloc::{AllocError, Global};
-use x86_values::{Bits, wrap};
+use x86_values::{Bits, Instr, wrap};
 
 /// Returns the instructions of the trampoline: the moved ones, and the jump back if control continues after them.
 #[tactic(auto, unfolding(crate::specs::Trampoline::block_items))]
@@ -75,28 +77,59 @@ fn goal_of_target(start: StartTarget, items: &[Placed], count: usize, target: u6
     }
 }
 
-/// Returns the goal of instruction `k` of the trampoline. The first `count` of its instructions are moved ones.
-fn goal_at(start: StartTarget, items: &[Placed], count: usize, k: usize) -> Goal
+/// The goal of a moved instruction, by its target.
+fn moved_goal(start: StartTarget, items: &[Placed], count: usize, target: Option<u64>) -> Goal
     requires within { count ≤ length items.now }
     requires few { length items.now ≤ 65536 }
-    requires item { k < length items.now }
-    ensures { result ≡ spec.trampoline_goal_at start items.now count k }
+    ensures { result ≡ spec.moved_goal start items.now count target }
 {
-    match target_of(&items[k].instr) {
+    match target {
         None => Goal::None,
-        Some(target) if k < count => goal_of_target(start, items, count, target),
+        Some(target) => goal_of_target(start, items, count, target),
+    }
+}
+
+/// The goal of an instruction whose target stays.
+fn kept_goal(target: Option<u64>) -> Goal
+    ensures { result ≡ plan.kept_goal target }
+{
+    match target {
+        None => Goal::None,
         Some(target) => Goal::Outside(target),
     }
 }
 
-/// Item `k` of the plan of the trampoline.
-fn branch_at(bits: Bits, items: &[Placed], count: usize, start: StartTarget, k: usize) -> Branch
+/// Returns whether the target of an instruction stays, whatever lies there: addresses at RIP and EIP stay, and it is no near branch.
+fn target_stays(rule: TargetRule, instr: &Instr) -> bool
+    ensures { result ≡ spec.target_stays rule instr.now }
+{
+    rule.rip_stays && near_target(instr).is_none()
+}
+
+/// Returns the goal of instruction `k` of the trampoline. The first `count` of its instructions are moved ones.
+fn goal_at(rule: TargetRule, items: &[Placed], count: usize, k: usize) -> Goal
     requires within { count ≤ length items.now }
     requires few { length items.now ≤ 65536 }
     requires item { k < length items.now }
-    ensures { result ≡ branch_with bits items.now (spec.trampoline_goal_at start items.now count) k }
+    ensures { result ≡ spec.trampoline_goal_at rule items.now count k }
 {
-    let goal = goal_at(start, items, count, k);
+    let instr = &items[k].instr;
+    let target = target_of(instr);
+    if k < count && !target_stays(rule, instr) {
+        moved_goal(rule.start, items, count, target)
+    } else {
+        kept_goal(target)
+    }
+}
+
+/// Item `k` of the plan of the trampoline.
+fn branch_at(bits: Bits, items: &[Placed], count: usize, rule: TargetRule, k: usize) -> Branch
+    requires within { count ≤ length items.now }
+    requires few { length items.now ≤ 65536 }
+    requires item { k < length items.now }
+    ensures { result ≡ branch_with bits items.now (spec.trampoline_goal_at rule items.now count) k }
+{
+    let goal = goal_at(rule, items, count, k);
     Branch {
         choices: choices_of(bits, &items[k].instr),
         goal,
@@ -110,17 +143,17 @@ fn plan_at(
     items: &[Placed],
     count: usize,
     place: u64,
-    start: StartTarget,
+    rule: TargetRule,
 ) -> Result<Plan, AllocError>
     requires within { count ≤ length items.now }
     requires few { length items.now ≤ 65536 }
     requires placed { ArePlaced bits items.now }
-    ensures { IfOk result (λ plan. plan ≡ spec.plan_at bits items.now count place start) }
+    ensures { IfOk result (λ plan. plan ≡ spec.plan_at bits items.now count place rule) }
 {
     laws_below();
     let mut branches = Vec::with_capacity(alloc, items.len())?;
     'items: for k in 0..items.len() {
-        branches.push(branch_at(bits, items, count, start, k))?;
+        branches.push(branch_at(bits, items, count, rule, k))?;
     }
     Ok(Plan::new(place, branches))
 }
@@ -132,15 +165,15 @@ pub(crate) fn lay_trampoline(
     ip: u64,
     taken: &Taken,
     place: u64,
-    start: StartTarget,
+    rule: TargetRule,
 ) -> Result<MovedBlocks, PlanError>
     requires { IsTakenFit bits taken.now }
-    ensures { IsPlanAnswer bits (spec.block_items bits ip taken.now.items.items) (spec.trampoline_plan bits ip taken.now.items.items place start)
+    ensures { IsPlanAnswer bits (spec.block_items bits ip taken.now.items.items) (spec.trampoline_plan bits ip taken.now.items.items place rule)
         (as_moving result) }
 {
     laws_below();
     let items = block_items(alloc, bits, ip, taken)?;
     let count = moved_count(&taken.items);
-    let plan = plan_at(alloc, bits, &items, count, place, start)?;
+    let plan = plan_at(alloc, bits, &items, count, place, rule)?;
     move_planned(alloc, bits, &items, &plan)
 }

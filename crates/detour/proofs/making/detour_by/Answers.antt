@@ -10,7 +10,7 @@ use Rattle.detour.proofs.making.detour_by.Goals as goal
 pub returns-in-Err : goal.returns-in-Err
 returns-in-Err c =
     let h : IsTakenAnswer c.args.bits c.args.ip c.args.code.now c.len.result (Err c.in-Err.why) = c.in-Err.ensures in
-    refused_untaken c.laws_below.ensures c.args.bits c.args.ip c.args.code.now c.args.to c.args.place c.args.start c.args.jump.now c.requires.jump c.in-Err.why
+    refused_untaken c.laws_below.ensures c.args.bits c.args.ip c.args.code.now c.args.to c.args.place c.args.rule c.args.jump.now c.requires.jump c.in-Err.why
     (subst (λ (n : ℕ). IsTakenAnswer c.args.bits c.args.ip c.args.code.now n (Err c.in-Err.why)) c.len.ensures.value h)
 
 pub returns-in-Ok-None : goal.returns-in-Ok-None
@@ -20,7 +20,7 @@ returns-in-Ok-None c =
     let are = subst (λ (n : ℕ). AreTaken c.args.bits c.args.ip c.args.code.now n c.in-Ok.taken.items.items) c.len.ensures.value h.1.0 in
     let entry : IsEntryAnswer code c.in-Ok.taken.items.items c.in-Ok-None.field-0 = c.in-Ok-None.ensures in
     let closed = subst (λ (e : Option (ℕ × ℕ)). IsEntryAnswer code c.in-Ok.taken.items.items e) c.in-Ok-None.field-0-is entry in
-    laid_answer c.laws_below.ensures c.args.bits c.args.ip c.args.code.now c.args.to c.args.place c.args.start c.args.jump.now c.requires.jump c.in-Ok.taken are h.1.1 h.0.0.len h.0.0.placed closed
+    laid_answer c.laws_below.ensures c.args.bits c.args.ip c.args.code.now c.args.to c.args.place c.args.rule c.args.jump.now c.requires.jump c.in-Ok.taken are h.1.1 h.0.0.len h.0.0.placed closed
     c.lay_detour.result c.lay_detour.ensures
 
 pub returns-in-Ok-Some : goal.returns-in-Ok-Some

@@ -8,8 +8,8 @@ use Rattle.detour.proofs.making.lay_detour.Goals as goal
 pub put_together-requires-clause-back : goal.put_together-requires-clause-back
 put_together-requires-clause-back c goes =
     let items = c.args.taken.now.items.items in
-    let block : IsTrampoline c.args.bits c.args.ip items c.args.place c.args.start c.in-Ok.moved = c.in-Ok.ensures in
+    let block : IsTrampoline c.args.bits c.args.ip items c.args.place c.args.rule c.in-Ok.moved = c.in-Ok.ensures in
     let starts = ap length block.lists.starts in
-    let count = length-map-range_with_len (place (trampoline_plan c.args.bits c.args.ip items c.args.place c.args.start) block.layout) 0 (length (block_items c.args.bits c.args.ip items)) in
+    let count = length-map-range_with_len (place (trampoline_plan c.args.bits c.args.ip items c.args.place c.args.rule) block.layout) 0 (length (block_items c.args.bits c.args.ip items)) in
     let some = block_some c.args.bits c.args.ip items goes in
     omega (arith, starts, count, some)

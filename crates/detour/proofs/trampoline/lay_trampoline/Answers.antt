@@ -31,5 +31,5 @@ plan_at-requires-clause-placed c =
 pub move_planned-requires : goal.move_planned-requires
 move_planned-requires c =
     ap (λ (p : BlockPlan). length p.items) c.in_ok-plan.ensures
-    ∙ (plan_count c.laws_below.ensures c.args.bits c.deref-2.result.now c.moved_count-count.result c.args.place c.args.start
+    ∙ (plan_count c.laws_below.ensures c.args.bits c.deref-2.result.now c.moved_count-count.result c.args.place c.args.rule
     ∙ ap length (c.deref-2.ensures.value ∙ sym c.deref-3.ensures.value))
