@@ -10,7 +10,7 @@ use Rattle.move_goals.specs.declared.items.Placed.{Placed}
 use Rattle.detour.specs.declared.parts.JumpForm.{JumpForm}
 use Rattle.detour.specs.declared.parts.JumpForm.TheVariants.{Near, Relay, Absolute}
 use Rattle.detour.specs.declared.start.StartTarget.{StartTarget}
-use Rattle.detour.specs.declared.start.TargetRule.{TargetRule}
+use Rattle.detour.specs.declared.start.MoveRule.{MoveRule}
 use Rattle.detour.specs.Detours.{IsJumpOf, IsDetour, DetourState, all_follow, patch_of}
 use Rattle.detour.specs.Jumps.{IsNearJump, near_jump_to, absolute_jump}
 use Rattle.detour.specs.Taken.{taken_bytes, offset_at, reading_of_item, AreReadFrom}
@@ -27,7 +27,7 @@ absolute-short : (target : ℕ) → length (absolute_jump target) ≤ 14
 unfolding absolute_jump
 absolute-short target = omega (arith, address-length target)
 
-jump-short : (facts : JumpFacts) (bits : Bits) (ip : ℕ) (code : List ℕ) (to place : ℕ) (rule : TargetRule) (form : JumpForm) (bytes : List ℕ) (relay : Option ℕ)
+jump-short : (facts : JumpFacts) (bits : Bits) (ip : ℕ) (code : List ℕ) (to place : ℕ) (rule : MoveRule) (form : JumpForm) (bytes : List ℕ) (relay : Option ℕ)
     → IsJumpOf bits ip code to place rule form bytes relay → length bytes ≤ 14
 jump-short facts bits ip code to place rule Near bytes relay (near, none) = near-short facts bits ip to bytes near
 jump-short facts bits ip code to place rule Relay bytes relay (far, (address, (at, (behind, near)))) = near-short facts bits ip address bytes near
@@ -61,7 +61,7 @@ patch_of-length jump taken =
     let n : length (replicate (taken - length jump) int3) ≡ taken - length jump = length-replicate (taken - length jump) int3 in
     omega (arith, length-append jump (replicate (taken - length jump) int3), n)
 
-patch-short : (facts : JumpFacts) (bits : Bits) (ip : ℕ) (code : List ℕ) (to place : ℕ) (rule : TargetRule) (d : DetourState) → IsDetour bits ip code to place rule d → length d.patch ≤ 28
+patch-short : (facts : JumpFacts) (bits : Bits) (ip : ℕ) (code : List ℕ) (to place : ℕ) (rule : MoveRule) (d : DetourState) → IsDetour bits ip code to place rule d → length d.patch ≤ 28
 patch-short facts bits ip code to place rule d is =
     let j = is.jump in
     let jump = jump-short facts bits ip code to place rule j.form j.bytes j.relay is.first in

@@ -15,7 +15,7 @@ use Rattle.detour.specs.declared.error.DetourError.TheVariants.{Memory, BadCode,
 use Rattle.detour.specs.declared.making.Jump.{Jump}
 use Rattle.detour.specs.declared.parts.JumpForm.{JumpForm}
 use Rattle.detour.specs.declared.parts.JumpForm.TheVariants.{Near, Relay, Absolute}
-use Rattle.detour.specs.declared.start.TargetRule.{TargetRule}
+use Rattle.detour.specs.declared.start.MoveRule.{MoveRule}
 use Rattle.detour.specs.declared.taken.Taken.{Taken}
 use Rattle.detour.specs.Taken.{AreTaken, taken_bytes, first_code_behind}
 use Rattle.detour.specs.Jumps.{IsOutOfReach}
@@ -30,7 +30,7 @@ use Rattle.detour.specs.Made.{detour_error_of, IsFarJumpOf, IsDetourLaid}
 
 -- ---- the relay
 
-module _ (bits : Bits) (ip : ℕ) (code : List ℕ) (place : ℕ) (rule : TargetRule) where
+module _ (bits : Bits) (ip : ℕ) (code : List ℕ) (place : ℕ) (rule : MoveRule) where
   -- there is none where nothing is taken
   untaken : (why : DetourError) → IsTakenAnswer bits ip code 5 (Err why) → (why ≡ Memory → ⊥) → IsRelay bits ip code place rule None
   untaken Memory h other = absurd (other refl)
@@ -50,7 +50,7 @@ module _ (bits : Bits) (ip : ℕ) (code : List ℕ) (place : ℕ) (rule : Target
   module _ (items : List Placed) where
     -- nor where what is taken is not moved
     unmoved : (why : PlanError)
-        → IsPlanAnswer bits (block_items bits ip items) (trampoline_plan bits ip items place rule) (Err (move_error_of why))
+        → IsPlanAnswer bits (block_items rule bits ip items) (trampoline_plan bits ip items place rule) (Err (move_error_of why))
         → (why ≡ plan_error.Memory → ⊥) → IsRelayBehind bits ip place rule (Ok items) None
     unmoved plan_error.Memory h other = absurd (other refl)
     unmoved (plan_error.Wraps end) h other = (Err (move_error.Wraps end), (h, refl))
@@ -58,7 +58,7 @@ module _ (bits : Bits) (ip : ℕ) (code : List ℕ) (place : ℕ) (rule : Target
 
     -- nor if what is taken cannot be moved, for another cause than memory
     pub relay_unmoved : (why : PlanError)
-        → IsPlanAnswer bits (block_items bits ip items) (trampoline_plan bits ip items place rule) (Err (move_error_of why))
+        → IsPlanAnswer bits (block_items rule bits ip items) (trampoline_plan bits ip items place rule) (Err (move_error_of why))
         → (r : Result (Option ℕ) DetourError) → IfOk r (λ relay. (relay ≡ None) × (why ≡ plan_error.Memory → ⊥))
         → IfOk r (λ relay. IsRelayBehind bits ip place rule (Ok items) relay)
     relay_unmoved why h (Ok relay) none = subst (λ (x : Option ℕ). IsRelayBehind bits ip place rule (Ok items) x) (sym none.0) (unmoved why h none.1)
@@ -73,7 +73,7 @@ module _ (bits : Bits) (ip : ℕ) (code : List ℕ) (place : ℕ) (rule : Target
 -- ---- the jump
 
 -- a far jump is the first that reaches, where the near one does not
-pub far_first : (bits : Bits) (ip : ℕ) (code : List ℕ) (to place : ℕ) (rule : TargetRule) → bits ≡ B64 → IsOutOfReach bits ip to
+pub far_first : (bits : Bits) (ip : ℕ) (code : List ℕ) (to place : ℕ) (rule : MoveRule) → bits ≡ B64 → IsOutOfReach bits ip to
     → (relay : Option ℕ) → IsRelay bits ip code place rule relay → (form : JumpForm) (bytes : List ℕ) (by : Option ℕ) → IsFarJumpOf bits ip to relay form bytes by
     → IsJumpOf bits ip code to place rule form bytes by
 far_first bits ip code to place rule long far relay tried Near bytes by h = absurd h
@@ -86,7 +86,7 @@ far_first bits ip code to place rule long far relay tried Absolute bytes by h = 
 abbrev parts_of_jump : Jump → JumpParts
 parts_of_jump jump = record { form = jump.form; bytes = jump.bytes.items; relay = jump.relay }
 
-module _ (laws : DetourLawsBelow) (bits : Bits) (ip : ℕ) (code : List ℕ) (to place : ℕ) (rule : TargetRule) (jump : Jump)
+module _ (laws : DetourLawsBelow) (bits : Bits) (ip : ℕ) (code : List ℕ) (to place : ℕ) (rule : MoveRule) (jump : Jump)
     (first : IsJumpOf bits ip code to place rule jump.form jump.bytes.items jump.relay) where
   -- nothing is taken
   pub refused_untaken : (why : DetourError) → IsTakenAnswer bits ip code (length jump.bytes.items) (Err why) → IsAnswerTo bits ip code to place rule (Err why)
@@ -99,10 +99,10 @@ module _ (laws : DetourLawsBelow) (bits : Bits) (ip : ℕ) (code : List ℕ) (to
   refused_untaken (TooFar at target) h = absurd h
 
   module _ (t : Taken) (are : AreTaken bits ip code (length jump.bytes.items) t.items.items) (whole : first_code_behind t.items.items ≡ None)
-      (len : t.len ≡ taken_bytes t.items.items) (placed : ArePlaced bits t.items.items) (closed : IsNotEntered (code_bytes bits ip code) t.items.items) where
+      (len : t.len ≡ taken_bytes t.items.items) (closed : IsNotEntered (code_bytes bits ip code) t.items.items) where
     -- it is not moved
     unmoved_refused : (why : PlanError)
-        → IsPlanAnswer bits (block_items bits ip t.items.items) (trampoline_plan bits ip t.items.items place rule) (Err (move_error_of why))
+        → IsPlanAnswer bits (block_items rule bits ip t.items.items) (trampoline_plan bits ip t.items.items place rule) (Err (move_error_of why))
         → IsAnswerTo bits ip code to place rule (Err (detour_error_of why))
     unmoved_refused plan_error.Memory h = tt
     unmoved_refused (plan_error.Wraps end) h =
@@ -122,7 +122,7 @@ module _ (laws : DetourLawsBelow) (bits : Bits) (ip : ℕ) (code : List ℕ) (to
           whole = whole;
           closed = closed;
           moved = h.0;
-          block = h.1.0;
+          block = h.1.0.0;
           form = h.1.1.form;
           taken = h.1.1.taken ∙ len;
           patch = patch;
@@ -130,9 +130,9 @@ module _ (laws : DetourLawsBelow) (bits : Bits) (ip : ℕ) (code : List ℕ) (to
           parts = h.1.1.parts;
           patch_read = subst (λ (bs : List ℕ). IsPatchRead bits ip to jump.form jump.bytes.items jump.relay bs) (sym patch)
               (patch_read laws bits ip code to place rule jump.form jump.bytes.items jump.relay first (taken_bytes t.items.items));
-          trampoline_read = trampoline_read laws bits ip t.items.items place rule placed h.0 h.1.0;
+          trampoline_read = trampoline_read laws bits ip t.items.items place rule h.1.0.1 h.0 h.1.0.0;
           relay_read = subst (λ (bs : List ℕ). IsRelayRead to place (length h.0.bytes) jump.relay bs) (sym h.1.1.trampoline)
-              (relay_read laws bits ip code to place rule jump.form jump.bytes.items jump.relay first t.items.items are h.0 h.1.0);
+              (relay_read laws bits ip code to place rule jump.form jump.bytes.items jump.relay first t.items.items are h.0 h.1.0.0);
         }
     laid_answer (Err why) h =
         elim h [

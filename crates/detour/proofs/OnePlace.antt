@@ -17,7 +17,7 @@ use Rattle.block_encoder.specs.ByPlan.{IsMovedBy, IsPlanAnswer}
 use Rattle.detour.specs.LawsBelow.{DetourLawsBelow}
 use Rattle.detour.specs.declared.error.DetourError.{DetourError}
 use Rattle.detour.specs.declared.error.DetourError.TheVariants.{Memory, BadCode, TooSmall, Ends, Entered, Wraps, TooFar}
-use Rattle.detour.specs.declared.start.TargetRule.{TargetRule}
+use Rattle.detour.specs.declared.start.MoveRule.{MoveRule}
 use Rattle.detour.specs.Taken.{AreReadFrom, AreTaken, taken_bytes, offset_at, reading_of_item}
 use Rattle.detour.specs.Trampoline.{IsTrampoline, block_items, trampoline_plan}
 use Rattle.detour.specs.Detours.{IsTakenAnswer, IsRelayOf, IsRelayBehind, relay_behind}
@@ -71,12 +71,12 @@ module _ (laws : DetourLawsBelow) (bits : Bits) where
       h.lists.bytes
       ∙ (ap (λ (l : List ℕ). bytes_of_blocks bits items p l (length p.spans)) (laws.one_least p h.layout k.layout h.least k.least) ∙ sym k.lists.bytes)
 
-  module _ (ip : ℕ) (code : List ℕ) (place : ℕ) (rule : TargetRule) (items : List Placed) (m : MovedLists) (block : IsTrampoline bits ip items place rule m) where
-    moved_place : (moved : Result MovedLists MoveError) → IsPlanAnswer bits (block_items bits ip items) (trampoline_plan bits ip items place rule) moved
+  module _ (ip : ℕ) (code : List ℕ) (place : ℕ) (rule : MoveRule) (items : List Placed) (m : MovedLists) (block : IsTrampoline bits ip items place rule m) where
+    moved_place : (moved : Result MovedLists MoveError) → IsPlanAnswer bits (block_items rule bits ip items) (trampoline_plan bits ip items place rule) moved
         → (address : ℕ) → IsRelayOf place moved (Some address) → address ≡ place + length m.bytes
     moved_place (Ok n) h address e =
         behind_there place (length n.bytes) address e
-        ∙ ap (λ (bs : List ℕ). place + length bs) (one_block (block_items bits ip items) (trampoline_plan bits ip items place rule) n m h block)
+        ∙ ap (λ (bs : List ℕ). place + length bs) (one_block (block_items rule bits ip items) (trampoline_plan bits ip items place rule) n m h block)
     moved_place (Err move_error.Memory) h address e = absurd e
     moved_place (Err (move_error.TooMany count)) h address e = absurd (cc)
     moved_place (Err (move_error.OldOrder at)) h address e = absurd (cc)

@@ -14,16 +14,15 @@ use Rattle.block_encoder.specs.Moved.{MovedLists}
 use Rattle.detour.specs.LawsBelow.{DetourLawsBelow}
 use Rattle.detour.specs.declared.parts.JumpForm.{JumpForm}
 use Rattle.detour.specs.declared.parts.JumpForm.TheVariants.{Near, Relay, Absolute}
-use Rattle.detour.specs.declared.start.TargetRule.{TargetRule}
+use Rattle.detour.specs.declared.start.MoveRule.{MoveRule}
 use Rattle.detour.specs.Jumps.{near_jump_to, IsNearJump, absolute_jump}
 use Rattle.detour.specs.Taken.{AreTaken, moved_count}
-use Rattle.detour.specs.Trampoline.{IsTrampoline, block_items, trampoline_goal_at, plan_at, trampoline_plan}
+use Rattle.detour.specs.Trampoline.{IsTrampoline, block_items, follow_count, trampoline_goal_at, plan_at, trampoline_plan}
 use Rattle.detour.specs.ReadBack.{jump_reading, IsAbsoluteRead, IsRelayRead, IsPatchRead, IsTrampolineRead}
 use Rattle.detour.specs.Detours.{IsJumpOf, patch_of, relay_bytes}
 use Rattle.detour.proofs.Jumping.{jump-four, near-five}
 use Rattle.detour.proofs.Through.{absolute_read, absolute_alone}
 use Rattle.detour.proofs.OnePlace.{relay_place}
-use Rattle.detour.proofs.Planned.{block_placed}
 
 in_first : (items : List Placed) (place k : ℕ) → k < length items → block_number (one_span items place) k ≡ 0
 in_first items place k lt = rw (lt-ltb k (length items) lt) refl
@@ -35,7 +34,7 @@ module _ (laws : DetourLawsBelow) where
       (laws.encodings.encoded-plain bits at (near_jump_to bits target) bytes (jump-four bits target) e)
 
   -- **the patch is read as the near jump**
-  pub patch_read : (bits : Bits) (ip : ℕ) (code : List ℕ) (to place : ℕ) (rule : TargetRule) (form : JumpForm) (bytes : List ℕ) (relay : Option ℕ)
+  pub patch_read : (bits : Bits) (ip : ℕ) (code : List ℕ) (to place : ℕ) (rule : MoveRule) (form : JumpForm) (bytes : List ℕ) (relay : Option ℕ)
       → IsJumpOf bits ip code to place rule form bytes relay → (taken : ℕ) → IsPatchRead bits ip to form bytes relay (patch_of bytes taken)
   unfolding patch_of
   patch_read bits ip code to place rule Near bytes relay h taken = near_read bits ip to bytes (replicate (taken - length bytes) 0xCC) h.0
@@ -61,7 +60,7 @@ module _ (laws : DetourLawsBelow) where
       )
 
   -- **the relay is behind the block, and is read as the jump to the replacement**
-  pub relay_read : (bits : Bits) (ip : ℕ) (code : List ℕ) (to place : ℕ) (rule : TargetRule) (form : JumpForm) (bytes : List ℕ) (relay : Option ℕ)
+  pub relay_read : (bits : Bits) (ip : ℕ) (code : List ℕ) (to place : ℕ) (rule : MoveRule) (form : JumpForm) (bytes : List ℕ) (relay : Option ℕ)
       → IsJumpOf bits ip code to place rule form bytes relay → (items : List Placed) → AreTaken bits ip code (length bytes) items → (m : MovedLists)
       → IsTrampoline bits ip items place rule m → IsRelayRead to place (length m.bytes) relay (m.bytes ++ relay_bytes relay to)
   relay_read bits ip code to place rule Near bytes relay h items are m block = no_relay to place m.bytes relay h.1
@@ -73,15 +72,14 @@ module _ (laws : DetourLawsBelow) where
   relay_read bits ip code to place rule Absolute bytes relay h items are m block = no_relay to place m.bytes relay h.1.1.1
 
   -- **the trampoline is read as the images of its instructions, each at its place, going to its goal**
-  pub trampoline_read : (bits : Bits) (ip : ℕ) (items : List Placed) (place : ℕ) (rule : TargetRule) → ArePlaced bits items
+  pub trampoline_read : (bits : Bits) (ip : ℕ) (items : List Placed) (place : ℕ) (rule : MoveRule) → ArePlaced bits (block_items rule bits ip items)
       → (m : MovedLists) (moved : IsTrampoline bits ip items place rule m) → IsTrampolineRead bits ip items place rule moved.layout
   unfolding plan_at
-  trampoline_read bits ip items place rule placed m moved =
-      let bs = block_items bits ip items in
-      let goals = trampoline_goal_at rule bs (moved_count items) in
+  trampoline_read bits ip items place rule well m moved =
+      let bs = block_items rule bits ip items in
+      let goals = trampoline_goal_at rule bs (moved_count items) (follow_count rule bits ip items) in
       let spans = one_span bs place in
       let of = laws.plans.one_span-of bs place in
-      let well : ArePlaced bits bs = block_placed laws bits ip items placed in
       record {
         images = laws.moved.read bits bs spans goals of well m moved 0 (omega arith);
         places = λ k lt. subst (λ (b : ℕ). StandsAtPlace bits bs (trampoline_plan bits ip items place rule) moved.layout b k) (in_first bs place k lt)

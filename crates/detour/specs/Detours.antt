@@ -1,5 +1,5 @@
 -- Detours: the jump that is chosen, what is written over the function, the trampoline, and when there is no detour.
-use Rattle.std.specs.Prelude.{◌≡◌, ℕ, ◌+◌, ◌-◌, ◌*◌, ◌^◌, nat_le, nat_lt, is_some, if◌then◌else◌, List, [], ◌++◌, length, replicate, slice_index_or, Option, Some, None, IfSome, Result, Ok, Err}
+use Rattle.std.specs.Prelude.{◌≡◌, ℕ, ◌+◌, ◌-◌, ◌*◌, ◌^◌, nat_le, nat_lt, Bool, false, is_some, if◌then◌else◌, List, [], ◌++◌, length, replicate, slice_index_or, Option, Some, None, IfSome, Result, Ok, Err}
 use Rattle.x86_values.specs.declared.Bits.{Bits}
 use Rattle.x86_values.specs.declared.Bits.TheVariants.{B64}
 use Rattle.x86_values.specs.Wrapping.{modulo_width}
@@ -14,11 +14,12 @@ use Rattle.detour.specs.declared.error.DetourError.TheVariants.{Memory, BadCode,
 use Rattle.detour.specs.declared.parts.JumpForm.{JumpForm}
 use Rattle.detour.specs.declared.parts.JumpForm.TheVariants.{Near, Relay, Absolute}
 use Rattle.detour.specs.declared.parts.Parts.{Parts}
-use Rattle.detour.specs.declared.start.TargetRule.{TargetRule}
+use Rattle.detour.specs.declared.start.StartTarget.{StartTarget}
+use Rattle.detour.specs.declared.start.MoveRule.{MoveRule}
 use Rattle.detour.specs.Taken.{AreTaken, IsBadCode, IsTooSmall, IsCodeBehind, taken_bytes, first_end, first_code_behind}
 use Rattle.detour.specs.Jumps.{IsNearJump, IsOutOfReach, absolute_jump}
 use Rattle.detour.specs.Entries.{IsFirstEntry, IsNotEntered}
-use Rattle.detour.specs.Trampoline.{IsTrampoline, block_items, trampoline_plan}
+use Rattle.detour.specs.Trampoline.{IsTrampoline, goes_back, block_items, trampoline_plan}
 use Rattle.detour.specs.ReadBack.{IsPatchRead, IsRelayRead, IsTrampolineRead}
 
 -- ---- what is taken
@@ -45,15 +46,15 @@ IsRelayOf place (Err move_error.Memory) relay = ⊥
 IsRelayOf place (Err why) relay = relay ≡ None
 
 -- the relay of what is taken, if there is one
-abbrev pub IsRelayBehind : Bits → ℕ → ℕ → TargetRule → Result (List Placed) DetourError → Option ℕ → Type 0
+abbrev pub IsRelayBehind : Bits → ℕ → ℕ → MoveRule → Result (List Placed) DetourError → Option ℕ → Type 0
 IsRelayBehind bits ip place rule (Ok items) relay =
     (moved : Result MovedLists MoveError)
-    × (IsPlanAnswer bits (block_items bits ip items) (trampoline_plan bits ip items place rule) moved × IsRelayOf place moved relay)
+    × (IsPlanAnswer bits (block_items rule bits ip items) (trampoline_plan bits ip items place rule) moved × IsRelayOf place moved relay)
 IsRelayBehind bits ip place rule (Err Memory) relay = ⊥
 IsRelayBehind bits ip place rule (Err why) relay = relay ≡ None
 
 -- the address of the relay behind the trampoline of what a near jump of 5 bytes takes, if there is one
-abbrev pub IsRelay : Bits → ℕ → List ℕ → ℕ → TargetRule → Option ℕ → Type 0
+abbrev pub IsRelay : Bits → ℕ → List ℕ → ℕ → MoveRule → Option ℕ → Type 0
 IsRelay bits ip code place rule relay =
     (taken : Result (List Placed) DetourError) × (IsTakenAnswer bits ip code 5 taken × IsRelayBehind bits ip place rule taken relay)
 
@@ -66,7 +67,7 @@ pub record JumpParts : Type 0 where
   pub relay : Option ℕ
 
 -- a jump of a form from the function to the replacement
-abbrev pub IsJumpOf : Bits → ℕ → List ℕ → ℕ → ℕ → TargetRule → JumpForm → List ℕ → Option ℕ → Type 0
+abbrev pub IsJumpOf : Bits → ℕ → List ℕ → ℕ → ℕ → MoveRule → JumpForm → List ℕ → Option ℕ → Type 0
 IsJumpOf bits ip code to place rule Near bytes relay = IsNearJump bits ip to bytes × (relay ≡ None)
 IsJumpOf bits ip code to place rule Relay bytes relay =
     ((bits ≡ B64) × IsOutOfReach bits ip to)
@@ -77,7 +78,7 @@ IsJumpOf bits ip code to place rule Absolute bytes relay =
     × ((bytes ≡ absolute_jump to) × (relay ≡ None)))
 
 -- the first of the three forms that reaches
-abbrev pub IsFirstJump : Bits → ℕ → List ℕ → ℕ → ℕ → TargetRule → JumpParts → Type 0
+abbrev pub IsFirstJump : Bits → ℕ → List ℕ → ℕ → ℕ → MoveRule → JumpParts → Type 0
 IsFirstJump bits ip code to place rule jump = IsJumpOf bits ip code to place rule jump.form jump.bytes jump.relay
 
 -- ---- the detour
@@ -99,16 +100,17 @@ abbrev pub relay_bytes : Option ℕ → ℕ → List ℕ
 relay_bytes None to = []
 relay_bytes (Some address) to = absolute_jump to
 
--- where the parts of the trampoline stand: the jump back is the last instruction of the block, the slots are its last bytes, and the relay is behind it
-unfoldable pub parts_of : List Placed → ℕ → MovedLists → Option ℕ → Parts
-parts_of items place m relay = record {
-  jump_back = if is_some (first_end items) then None else Some (slice_index_or m.starts (length m.starts - 1) 0 - place);
+-- where the parts of the trampoline stand: the jump back, if there is one, is the last instruction of the block, the slots are its last bytes, and the
+-- relay is behind it
+unfoldable pub parts_of : Bool → ℕ → MovedLists → Option ℕ → Parts
+parts_of back place m relay = record {
+  jump_back = if back then Some (slice_index_or m.starts (length m.starts - 1) 0 - place) else None;
   slots = if nat_lt 0 (length m.slots) then Some (length m.bytes - 8 * length m.slots) else None;
   relay = if is_some relay then Some (length m.bytes) else None;
 }
 
 -- the detour of a function: the first jump that reaches over what it takes, where nothing else enters, and the trampoline
-pub record IsDetour (bits : Bits) (ip : ℕ) (code : List ℕ) (to place : ℕ) (rule : TargetRule) (d : DetourState) : Type 0 where
+pub record IsDetour (bits : Bits) (ip : ℕ) (code : List ℕ) (to place : ℕ) (rule : MoveRule) (d : DetourState) : Type 0 where
   pub jump : JumpParts
   pub first : IsFirstJump bits ip code to place rule jump
   pub items : List Placed
@@ -121,18 +123,18 @@ pub record IsDetour (bits : Bits) (ip : ℕ) (code : List ℕ) (to place : ℕ) 
   pub taken : d.taken ≡ taken_bytes items
   pub patch : d.patch ≡ patch_of jump.bytes (taken_bytes items)
   pub trampoline : d.trampoline ≡ moved.bytes ++ relay_bytes jump.relay to
-  pub parts : d.parts ≡ parts_of items place moved jump.relay
+  pub parts : d.parts ≡ parts_of (goes_back rule bits items) place moved jump.relay
   pub patch_read : IsPatchRead bits ip to jump.form jump.bytes jump.relay d.patch
   pub trampoline_read : IsTrampolineRead bits ip items place rule block.layout
   pub relay_read : IsRelayRead to place (length moved.bytes) jump.relay d.trampoline
 
 -- nothing is taken for the first jump that reaches, for this cause
-abbrev pub IsNotTaken : Bits → ℕ → List ℕ → ℕ → ℕ → TargetRule → DetourError → Type 0
+abbrev pub IsNotTaken : Bits → ℕ → List ℕ → ℕ → ℕ → MoveRule → DetourError → Type 0
 IsNotTaken bits ip code to place rule why =
     (jump : JumpParts) × (IsFirstJump bits ip code to place rule jump × IsTakenAnswer bits ip code (length jump.bytes) (Err why))
 
 -- what is taken for it is entered, at first from an offset, to another
-pub record IsEntered (bits : Bits) (ip : ℕ) (code : List ℕ) (to place : ℕ) (rule : TargetRule) (from target : ℕ) : Type 0 where
+pub record IsEntered (bits : Bits) (ip : ℕ) (code : List ℕ) (to place : ℕ) (rule : MoveRule) (from target : ℕ) : Type 0 where
   pub jump : JumpParts
   pub first : IsFirstJump bits ip code to place rule jump
   pub items : List Placed
@@ -141,17 +143,17 @@ pub record IsEntered (bits : Bits) (ip : ℕ) (code : List ℕ) (to place : ℕ)
   pub entry : IsFirstEntry (code_bytes bits ip code) items from target
 
 -- what is taken for it is not entered, and not moved for this cause
-pub record IsNotMoved (bits : Bits) (ip : ℕ) (code : List ℕ) (to place : ℕ) (rule : TargetRule) (why : MoveError) : Type 0 where
+pub record IsNotMoved (bits : Bits) (ip : ℕ) (code : List ℕ) (to place : ℕ) (rule : MoveRule) (why : MoveError) : Type 0 where
   pub jump : JumpParts
   pub first : IsFirstJump bits ip code to place rule jump
   pub items : List Placed
   pub are_taken : AreTaken bits ip code (length jump.bytes) items
   pub whole : first_code_behind items ≡ None
   pub closed : IsNotEntered (code_bytes bits ip code) items
-  pub refused : IsPlanAnswer bits (block_items bits ip items) (trampoline_plan bits ip items place rule) (Err why)
+  pub refused : IsPlanAnswer bits (block_items rule bits ip items) (trampoline_plan bits ip items place rule) (Err why)
 
 -- the answer, by the addresses in the mode
-abbrev pub IsAnswerTo : Bits → ℕ → List ℕ → ℕ → ℕ → TargetRule → Result DetourState DetourError → Type 0
+abbrev pub IsAnswerTo : Bits → ℕ → List ℕ → ℕ → ℕ → MoveRule → Result DetourState DetourError → Type 0
 IsAnswerTo bits ip code to place rule (Ok d) = IsDetour bits ip code to place rule d
 IsAnswerTo bits ip code to place rule (Err (Entered from target)) = IsEntered bits ip code to place rule from target
 IsAnswerTo bits ip code to place rule (Err (Wraps end)) = IsNotMoved bits ip code to place rule (move_error.Wraps end)
@@ -159,9 +161,9 @@ IsAnswerTo bits ip code to place rule (Err (TooFar at target)) = IsNotMoved bits
 IsAnswerTo bits ip code to place rule (Err Memory) = Unit {0}
 IsAnswerTo bits ip code to place rule (Err why) = IsNotTaken bits ip code to place rule why
 
--- the rule for targets: what is asked for the start of the function, and every other target follows a moved instruction
-abbrev pub all_follow : StartTarget → TargetRule
-all_follow start = record { start = start; rip_stays = false }
+-- the rule: what is asked for the start of the function; every other target follows a moved instruction; a call pushes what it pushes
+abbrev pub all_follow : StartTarget → MoveRule
+all_follow start = record { start = start; rip_stays = false; returns = false }
 
 -- the answer: the address of the replacement is taken modulo 2 to the number of bits of the mode
 abbrev pub IsDetourAnswer : Bits → ℕ → List ℕ → ℕ → ℕ → StartTarget → Result DetourState DetourError → Type 0

@@ -14,7 +14,7 @@ use Rattle.block_encoder.specs.Aims.{StandsAtPlace, GoesToGoal}
 use Rattle.block_encoder.specs.Read.{IsReadAsImages}
 use Rattle.detour.specs.declared.parts.JumpForm.{JumpForm}
 use Rattle.detour.specs.declared.parts.JumpForm.TheVariants.{Near, Relay, Absolute}
-use Rattle.detour.specs.declared.start.TargetRule.{TargetRule}
+use Rattle.detour.specs.declared.start.MoveRule.{MoveRule}
 use Rattle.detour.specs.Jumps.{near_jump_to}
 use Rattle.detour.specs.Trampoline.{block_items, trampoline_plan}
 
@@ -44,9 +44,9 @@ IsPatchRead bits ip to Absolute bytes relay patch = (bits ≡ B64) × IsAbsolute
 
 -- The sweep of the trampoline up to its gap gives the instructions of the images of the moved instructions and of the jump back, in order; each image
 -- stands at its place and goes to its goal.
-pub record IsTrampolineRead (bits : Bits) (ip : ℕ) (items : List Placed) (place : ℕ) (rule : TargetRule) (layout : List ℕ) : Type 0 where
-  pub images : IsReadAsImages bits (block_items bits ip items) (trampoline_plan bits ip items place rule) layout 0
-  pub places : (k : ℕ) → k < length (block_items bits ip items)
-      → StandsAtPlace bits (block_items bits ip items) (trampoline_plan bits ip items place rule) layout 0 k
-  pub goals : (k : ℕ) → k < length (block_items bits ip items)
-      → GoesToGoal bits (block_items bits ip items) (trampoline_plan bits ip items place rule) layout 0 k
+pub record IsTrampolineRead (bits : Bits) (ip : ℕ) (items : List Placed) (place : ℕ) (rule : MoveRule) (layout : List ℕ) : Type 0 where
+  pub images : IsReadAsImages bits (block_items rule bits ip items) (trampoline_plan bits ip items place rule) layout 0
+  pub places : (k : ℕ) → k < length (block_items rule bits ip items)
+      → StandsAtPlace bits (block_items rule bits ip items) (trampoline_plan bits ip items place rule) layout 0 k
+  pub goals : (k : ℕ) → k < length (block_items rule bits ip items)
+      → GoesToGoal bits (block_items rule bits ip items) (trampoline_plan bits ip items place rule) layout 0 k

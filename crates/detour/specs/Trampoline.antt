@@ -1,5 +1,5 @@
--- The trampoline of a detour: the moved instructions, and the jump back, by a plan of their own.
-use Rattle.std.specs.Prelude.{ℕ, zero, suc, ◌+◌, nat_lt, Bool, not, ◌&&◌, is_some, if◌then◌else◌, List, [], ◌∷◌, ◌++◌, take, Option, Some, None}
+-- The trampoline of a detour: the moved instructions, and the jump back or what does a call at the end, by a plan of their own.
+use Rattle.std.specs.Prelude.{ℕ, zero, suc, ◌+◌, ◌-◌, nat_lt, Bool, true, false, not, ◌&&◌, is_some, is_none, if◌then◌else◌, List, [], ◌∷◌, ◌++◌, length, take, slice_get, Option, Some, None}
 use Rattle.x86_values.specs.declared.Bits.{Bits}
 use Rattle.x86_values.specs.declared.Instr.{Instr}
 use Rattle.x86_values.specs.Wrapping.{modulo_width}
@@ -14,9 +14,10 @@ use Rattle.move_goals.specs.Goals.{begins_at}
 use Rattle.move_goals.specs.Plan.{plan_with, kept_goal}
 use Rattle.block_encoder.specs.Moved.{MovedLists}
 use Rattle.block_encoder.specs.ByPlan.{IsMovedBy}
+use Rattle.pushed_calls.specs.Items.{pushed_items}
 use Rattle.detour.specs.declared.start.StartTarget.{StartTarget}
 use Rattle.detour.specs.declared.start.StartTarget.TheVariants.{Moved, Hooked}
-use Rattle.detour.specs.declared.start.TargetRule.{TargetRule}
+use Rattle.detour.specs.declared.start.MoveRule.{MoveRule}
 use Rattle.detour.specs.Jumps.{near_jump_to}
 use Rattle.detour.specs.Taken.{taken_bytes, moved_count, first_end}
 
@@ -38,9 +39,35 @@ moved_items items = take (moved_count items) items
 abbrev pub back_items : Bits → ℕ → List Placed → List Placed
 back_items bits ip items = if is_some (first_end items) then [] else jump_back bits (address_behind_taken bits ip items) ∷ []
 
+-- ---- a call at the end
+
+-- what does the call, if it is asked for and there is one: its return address is pushed, and a jump goes to its target
+abbrev pub pushed_by : Bool → Bits → Option Placed → Option (List Placed)
+pushed_by false bits item = None
+pushed_by true bits None = None
+pushed_by true bits (Some item) = pushed_items bits item
+
+-- what does the call that is the last taken instruction, where the rule asks for own return addresses and control goes on behind all that is taken
+unfoldable pub pushed_last : MoveRule → Bits → List Placed → Option (List Placed)
+pushed_last rule bits items = pushed_by (rule.returns && is_none (first_end items)) bits (slice_get items (length items - 1))
+
+-- control goes on behind what is taken, and no call has left: there is a jump back
+abbrev pub goes_back : MoveRule → Bits → List Placed → Bool
+goes_back rule bits items = is_none (first_end items) && is_none (pushed_last rule bits items)
+
+-- the instructions of the trampoline, by what does the call at the end: the moved ones and the jump back, or those before the call, and what does it
+abbrev pub block_by : Option (List Placed) → Bits → ℕ → List Placed → List Placed
+block_by None bits ip items = moved_items items ++ back_items bits ip items
+block_by (Some pushed) bits ip items = take (length items - 1) items ++ pushed
+
 -- the instructions of the trampoline
-unfoldable pub block_items : Bits → ℕ → List Placed → List Placed
-block_items bits ip items = moved_items items ++ back_items bits ip items
+unfoldable pub block_items : MoveRule → Bits → ℕ → List Placed → List Placed
+block_items rule bits ip items = block_by (pushed_last rule bits items) bits ip items
+
+-- how many of the first instructions of the trampoline may go to moved ones: all but the jump back
+abbrev pub follow_count : MoveRule → Bits → ℕ → List Placed → ℕ
+follow_count rule bits ip items =
+    if is_some (pushed_last rule bits items) then length (block_items rule bits ip items) else moved_count items
 
 -- ---- where they go
 
@@ -65,25 +92,26 @@ moved_goal start items count None = kept_goal None
 moved_goal start items count (Some t) = trampoline_goal start items count t
 
 -- the target of the instruction stays, whatever stands there: addresses at RIP and EIP stay, and it is no near branch
-abbrev pub target_stays : TargetRule → Instr → Bool
+abbrev pub target_stays : MoveRule → Instr → Bool
 target_stays rule i = rule.rip_stays && not (is_some (first_value near_value i))
 
--- the goal of instruction k of the trampoline: that of a moved one is sought among the moved ones, unless its target stays; the jump back behind them
--- goes to its own target
-abbrev pub trampoline_goal_at : TargetRule → List Placed → ℕ → ℕ → Goal
-trampoline_goal_at rule items count k =
-    if nat_lt k count && not (target_stays rule (item_at items k).instr)
+-- the goal of instruction k of the trampoline: that of one of the first `follow` is sought among the first `count`, which stand for moved ones, unless its
+-- target stays; the jump back behind them goes to its own target
+abbrev pub trampoline_goal_at : MoveRule → List Placed → ℕ → ℕ → ℕ → Goal
+trampoline_goal_at rule items count follow k =
+    if nat_lt k follow && not (target_stays rule (item_at items k).instr)
     then moved_goal rule.start items count (target_of (item_at items k).instr)
     else kept_goal (target_of (item_at items k).instr)
 
--- the plan of the trampoline at a place, of instructions of which so many are moved
-unfoldable pub plan_at : Bits → List Placed → ℕ → ℕ → TargetRule → BlockPlan
-plan_at bits items count place rule = plan_with bits (one_span items place) items (trampoline_goal_at rule items count)
+-- the plan of the trampoline at a place, of instructions of which the first `count` stand for moved ones, and `follow` may go to these
+unfoldable pub plan_at : Bits → List Placed → ℕ → ℕ → ℕ → MoveRule → BlockPlan
+plan_at bits items count follow place rule = plan_with bits (one_span items place) items (trampoline_goal_at rule items count follow)
 
 -- the plan of what is taken
-abbrev pub trampoline_plan : Bits → ℕ → List Placed → ℕ → TargetRule → BlockPlan
-trampoline_plan bits ip items place rule = plan_at bits (block_items bits ip items) (moved_count items) place rule
+abbrev pub trampoline_plan : Bits → ℕ → List Placed → ℕ → MoveRule → BlockPlan
+trampoline_plan bits ip items place rule =
+    plan_at bits (block_items rule bits ip items) (moved_count items) (follow_count rule bits ip items) place rule
 
 -- the moved instructions and the jump back in the least layout, each reaching its goal, with gap and slots behind them
-abbrev pub IsTrampoline : Bits → ℕ → List Placed → ℕ → TargetRule → MovedLists → Type 0
-IsTrampoline bits ip items place rule m = IsMovedBy bits (block_items bits ip items) (trampoline_plan bits ip items place rule) m
+abbrev pub IsTrampoline : Bits → ℕ → List Placed → ℕ → MoveRule → MovedLists → Type 0
+IsTrampoline bits ip items place rule m = IsMovedBy bits (block_items rule bits ip items) (trampoline_plan bits ip items place rule) m

@@ -1,24 +1,23 @@
 //! Making a detour.
 
-ghost use Rattle.std.specs.Prelude.{◌≡◌, ◌≤◌, ◌<◌, ◌++◌, ◌^◌, None, Ok, length, IfOk, IfErr};
+ghost use Rattle.std.specs.Prelude.{◌≡◌, ◌≤◌, ◌<◌, ◌++◌, ◌^◌, true, None, Ok, length, IfOk, IfErr};
 ghost use Rattle.x86_values.specs.Wrapping.{modulo_width, width};
 ghost use Rattle.detour.specs.declared.error.DetourError.TheVariants.{Memory};
 ghost use Rattle.detour.specs.Detours as spec;
 ghost use Rattle.detour.specs.Detours.{IsRelay, IsRelayBehind, IsJumpOf, IsAnswerTo, IsDetourAnswer, relay_bytes};
 ghost use Rattle.block_encoder.specs.declared.error.PlanError.TheVariants as plan_error;
 ghost use Rattle.detour.specs.Made.{IsWholeTaken, IsFarJump, IsPutTogether, IsDetourLaid, detour_error_of};
-ghost use Rattle.detour.specs.Reading.{AreCoded, IsTakenFit};
+ghost use Rattle.detour.specs.Reading.{IsTakenFit};
 ghost use Rattle.detour.specs.Taken.{taken_bytes};
-ghost use Rattle.detour.specs.Taken as taken_spec;
 
 use crate::entries::first_entry;
 use crate::error::DetourError;
 use crate::jumps::{ABSOLUTE_LEN, NEAR_LEN, absolute_jump, near_jump};
 use crate::laws_below::laws_below;
 use crate::parts::{Detour, JumpForm, Parts};
-use crate::start::{StartTarget, TargetRule};
-use crate::taken::{Taken, first_code_behind, first_end, offset_at, take};
-use crate::trampoline::lay_trampoline;
+use crate::start::{MoveRule, StartTarget};
+use crate::taken::{Taken, first_code_behind, offset_at, take};
+use crate::trampoline::{goes_back, lay_trampoline};
 use arrayvec::ArrayVec;
 use block_encoder::{MovedBlocks, PlanError};
 use flow_graph::FlowError;
@@ -99,7 +98,7 @@ fn relay_of(
     ip: u64,
     taken: &Taken,
     place: u64,
-    rule: TargetRule,
+    rule: MoveRule,
 ) -> Result<Option<u64>, DetourError>
     requires { IsTakenFit bits taken.now }
     ensures relay { IfOk result (λ relay. IsRelayBehind bits ip place rule (Ok taken.now.items.items) relay) }
@@ -118,7 +117,7 @@ fn relay_address(
     ip: u64,
     code: &[u8],
     place: u64,
-    rule: TargetRule,
+    rule: MoveRule,
 ) -> Result<Option<u64>, DetourError>
     ensures relay { IfOk result (λ relay. IsRelay bits ip code.now place rule relay) }
     ensures refused { IfErr result (λ why. why ≡ Memory) }
@@ -166,7 +165,7 @@ fn jump_for(
     code: &[u8],
     to: u64,
     place: u64,
-    rule: TargetRule,
+    rule: MoveRule,
 ) -> Result<Jump, DetourError>
     requires { to < 2 ^ width bits }
     ensures jump { IfOk result (λ jump. IsJumpOf bits ip code.now to place rule jump.form jump.bytes.items jump.relay) }
@@ -218,15 +217,14 @@ fn trampoline_of(
 
 /// Returns where the parts of a trampoline lie.
 #[tactic(auto, unfolding(crate::specs::Detours::parts_of))]
-fn parts_of(place: u64, items: &[Placed], moved: &MovedBlocks, relay: Option<u64>) -> Parts
-    requires coded { AreCoded items.now }
-    requires back { taken_spec.first_end items.now ≡ None → 0 < length moved.now.starts }
-    ensures { result ≡ spec.parts_of items.now place moved.now relay }
+fn parts_of(place: u64, back: bool, moved: &MovedBlocks, relay: Option<u64>) -> Parts
+    requires { back ≡ true → 0 < length moved.now.starts }
+    ensures { result ≡ spec.parts_of back place moved.now relay }
 {
     let starts = moved.starts();
     let slots = moved.slots().len();
     Parts {
-        jump_back: if first_end(items).is_none() {
+        jump_back: if back {
             Some(starts[starts.len() - 1].saturating_sub(place))
         } else {
             None
@@ -249,18 +247,18 @@ fn put_together(
     alloc: Global,
     to: u64,
     place: u64,
+    back: bool,
     jump: &Jump,
     taken: &Taken,
     moved: &MovedBlocks,
 ) -> Result<Detour, DetourError>
-    requires coded { AreCoded taken.now.items.items }
     requires len { taken.now.len ≡ taken_bytes taken.now.items.items }
     requires fits { length jump.now.bytes.items ≤ taken.now.len }
-    requires back { taken_spec.first_end taken.now.items.items ≡ None → 0 < length moved.now.starts }
-    ensures parts { IfOk result (λ d. IsPutTogether to place jump.now taken.now moved.now d) }
+    requires back { back ≡ true → 0 < length moved.now.starts }
+    ensures parts { IfOk result (λ d. IsPutTogether to place back jump.now taken.now moved.now d) }
     ensures refused { IfErr result (λ why. why ≡ Memory) }
 {
-    let parts = parts_of(place, &taken.items, moved, jump.relay);
+    let parts = parts_of(place, back, moved, jump.relay);
     let Ok(patch) = patch_of(alloc, &jump.bytes, taken.len) else {
         return Err(DetourError::Memory);
     };
@@ -283,7 +281,7 @@ fn lay_detour(
     ip: u64,
     to: u64,
     place: u64,
-    rule: TargetRule,
+    rule: MoveRule,
     jump: &Jump,
     taken: &Taken,
 ) -> Result<Detour, DetourError>
@@ -292,7 +290,10 @@ fn lay_detour(
     ensures { IsDetourLaid bits ip to place rule jump.now taken.now result }
 {
     match lay_trampoline(alloc, bits, ip, taken, place, rule) {
-        Ok(moved) => put_together(alloc, to, place, jump, taken, &moved),
+        Ok(moved) => {
+            let back = goes_back(rule, bits, taken);
+            put_together(alloc, to, place, back, jump, taken, &moved)
+        }
         Err(why) => Err(move_refusal(why)),
     }
 }
@@ -305,7 +306,7 @@ fn detour_by(
     code: &[u8],
     to: u64,
     place: u64,
-    rule: TargetRule,
+    rule: MoveRule,
     jump: &Jump,
 ) -> Result<Detour, DetourError>
     requires size { length code.now ≤ 1048576 }
@@ -336,7 +337,7 @@ pub(crate) fn detour_under(
     code: &[u8],
     to: u64,
     place: u64,
-    rule: TargetRule,
+    rule: MoveRule,
 ) -> Result<Detour, DetourError>
     requires { length code.now ≤ 1048576 }
     ensures { IsAnswerTo bits ip code.now (modulo_width bits to) place rule result }
@@ -392,9 +393,10 @@ pub fn detour(
     requires { length code.now ≤ 1048576 }
     ensures { IsDetourAnswer bits ip code.now to place start result }
 {
-    let rule = TargetRule {
+    let rule = MoveRule {
         start,
         rip_stays: false,
+        returns: false,
     };
     detour_under(alloc, bits, ip, code, to, place, rule)
 }

@@ -9,11 +9,13 @@ pub enum StartTarget {
     Hooked,
 }
 
-/// Where the targets of moved instructions go, if a moved instruction lies there.
+/// How the instructions that are taken are moved.
 #[derive(Clone, Copy)]
-pub(crate) struct TargetRule {
-    /// A target that is the function's own first byte.
+pub(crate) struct MoveRule {
+    /// Where a target goes that is the function's own first byte.
     pub(crate) start: StartTarget,
     /// Whether addresses at RIP and EIP stay as they are: then only near branches follow moved instructions.
     pub(crate) rip_stays: bool,
+    /// Whether a near CALL that is the last of them pushes its own return address, the one in the function, and jumps.
+    pub(crate) returns: bool,
 }

@@ -1,18 +1,19 @@
 //! The moved instructions and the jump back.
 
-ghost use Rattle.std.specs.Prelude.{◌≡◌, ◌<◌, ◌≤◌, length, IfOk, IfSome};
+ghost use Rattle.std.specs.Prelude.{◌≡◌, ◌<◌, ◌≤◌, None, Some, length, IfOk, IfSome};
 ghost use Rattle.move_goals.specs.Items.{ArePlaced, first_below};
 ghost use Rattle.move_goals.specs.Goals.{begins_at};
 ghost use Rattle.move_goals.specs.Plan.{branch_with};
 ghost use Rattle.move_goals.specs.Plan as plan;
 ghost use Rattle.block_encoder.specs.ByPlan.{IsPlanAnswer};
 ghost use Rattle.block_encoder.specs.Planned.{as_moving};
+ghost use Rattle.pushed_calls.specs.Items.{items_if, items_in};
 ghost use Rattle.detour.specs.Reading.{IsTakenFit};
 ghost use Rattle.detour.specs.Trampoline as spec;
 
 use crate::jumps::jump_back;
 use crate::laws_below::laws_below;
-use crate::start::{StartTarget, TargetRule};
+use crate::start::{MoveRule, StartTarget};
 use crate::taken::{Taken, first_end, moved_count};
 use block_encoder::{MovedBlocks, PlanError, move_planned};
 use branch_sizes::{Branch, Goal, Plan};
@@ -20,14 +21,49 @@ use move_goals::Placed;
 use move_goals::branch_forms::choices_of;
 use move_goals::moved_targets::target_of;
 use operand_info::near_target;
+use pushed_calls::{PushedCall, pushed_call};
 use std::alloc::{AllocError, Global};
 use x86_values::{Bits, Instr, wrap};
 
-/// Returns the instructions of the trampoline: the moved ones, and the jump back if control continues after them.
-#[tactic(auto, unfolding(crate::specs::Trampoline::block_items))]
-fn block_items(alloc: Global, bits: Bits, ip: u64, taken: &Taken) -> Result<Vec<Placed>, AllocError>
+/// Returns what does a call that is the last taken instruction, if the rule asks for that and control continues after all of them.
+#[tactic(auto, unfolding(crate::specs::Trampoline::pushed_last))]
+fn pushed_last(rule: MoveRule, bits: Bits, taken: &Taken) -> Option<PushedCall>
     requires { IsTakenFit bits taken.now }
-    ensures { IfOk result (λ items. items.items ≡ spec.block_items bits ip taken.now.items.items) }
+    ensures value { items_if result ≡ spec.pushed_last rule bits taken.now.items.items }
+    ensures placed { IfSome result (λ call. ArePlaced bits (items_in call)) }
+{
+    if !(rule.returns && first_end(&taken.items).is_none()) {
+        return None;
+    }
+    match taken.items.get(taken.items.len().saturating_sub(1)) {
+        None => None,
+        Some(item) => pushed_call(bits, item),
+    }
+}
+
+/// Returns whether there is a jump back: control continues after the taken instructions, and no call has left.
+pub(crate) fn goes_back(rule: MoveRule, bits: Bits, taken: &Taken) -> bool
+    requires { IsTakenFit bits taken.now }
+    ensures { result ≡ spec.goes_back rule bits taken.now.items.items }
+{
+    match first_end(&taken.items) {
+        Some(_) => false,
+        None => match pushed_last(rule, bits, taken) {
+            Some(_) => false,
+            None => true,
+        },
+    }
+}
+
+/// Returns the moved instructions, and the jump back if control continues after them.
+fn items_and_back(
+    alloc: Global,
+    bits: Bits,
+    ip: u64,
+    taken: &Taken,
+) -> Result<Vec<Placed>, AllocError>
+    requires { IsTakenFit bits taken.now }
+    ensures { IfOk result (λ items. items.items ≡ spec.block_by None bits ip taken.now.items.items) }
 {
     let count = moved_count(&taken.items);
     let mut items = Vec::with_capacity(alloc, count + 1)?;
@@ -37,6 +73,63 @@ fn block_items(alloc: Global, bits: Bits, ip: u64, taken: &Taken) -> Result<Vec<
         items.push(jump_back(bits, back))?;
     }
     Ok(items)
+}
+
+/// Returns the instructions before the last taken one, and what does that one.
+fn items_and_call(
+    alloc: Global,
+    bits: Bits,
+    ip: u64,
+    taken: &Taken,
+    call: &PushedCall,
+) -> Result<Vec<Placed>, AllocError>
+    ensures { IfOk result (λ items. items.items ≡ spec.block_by (Some (items_in call.now)) bits ip taken.now.items.items) }
+{
+    let before = taken.items.len().saturating_sub(1);
+    let mut items = Vec::new(alloc);
+    items.extend_from_slice(&taken.items[..before])?;
+    items.extend_from_slice(call.items())?;
+    Ok(items)
+}
+
+/// Returns the instructions of the trampoline: the moved ones, and the jump back or what does the call at the end.
+#[tactic(auto, unfolding(crate::specs::Trampoline::block_items))]
+fn block_items(
+    alloc: Global,
+    rule: MoveRule,
+    bits: Bits,
+    ip: u64,
+    taken: &Taken,
+    called: &Option<PushedCall>,
+) -> Result<Vec<Placed>, AllocError>
+    requires fit { IsTakenFit bits taken.now }
+    requires called { items_if called.now ≡ spec.pushed_last rule bits taken.now.items.items }
+    ensures { IfOk result (λ items. items.items ≡ spec.block_items rule bits ip taken.now.items.items) }
+{
+    match called {
+        None => items_and_back(alloc, bits, ip, taken),
+        Some(call) => items_and_call(alloc, bits, ip, taken, call),
+    }
+}
+
+/// Returns how many of the first instructions of the trampoline may go to moved ones: all but the jump back.
+fn follow_count(
+    rule: MoveRule,
+    bits: Bits,
+    ip: u64,
+    taken: &Taken,
+    called: &Option<PushedCall>,
+    items: &[Placed],
+) -> usize
+    requires fit { IsTakenFit bits taken.now }
+    requires called { items_if called.now ≡ spec.pushed_last rule bits taken.now.items.items }
+    requires items { items.now ≡ spec.block_items rule bits ip taken.now.items.items }
+    ensures { result ≡ spec.follow_count rule bits ip taken.now.items.items }
+{
+    match called {
+        None => moved_count(&taken.items),
+        Some(_) => items.len(),
+    }
 }
 
 /// The first of `count` instructions that began at an address.
@@ -100,22 +193,23 @@ fn kept_goal(target: Option<u64>) -> Goal
 }
 
 /// Returns whether the target of an instruction stays, whatever lies there: addresses at RIP and EIP stay, and it is no near branch.
-fn target_stays(rule: TargetRule, instr: &Instr) -> bool
+fn target_stays(rule: MoveRule, instr: &Instr) -> bool
     ensures { result ≡ spec.target_stays rule instr.now }
 {
     rule.rip_stays && near_target(instr).is_none()
 }
 
-/// Returns the goal of instruction `k` of the trampoline. The first `count` of its instructions are moved ones.
-fn goal_at(rule: TargetRule, items: &[Placed], count: usize, k: usize) -> Goal
+/// Returns the goal of instruction `k` of the trampoline. The first `count` of its instructions stand for moved ones, and the first `follow` may go to
+/// these.
+fn goal_at(rule: MoveRule, items: &[Placed], count: usize, follow: usize, k: usize) -> Goal
     requires within { count ≤ length items.now }
     requires few { length items.now ≤ 65536 }
     requires item { k < length items.now }
-    ensures { result ≡ spec.trampoline_goal_at rule items.now count k }
+    ensures { result ≡ spec.trampoline_goal_at rule items.now count follow k }
 {
     let instr = &items[k].instr;
     let target = target_of(instr);
-    if k < count && !target_stays(rule, instr) {
+    if k < follow && !target_stays(rule, instr) {
         moved_goal(rule.start, items, count, target)
     } else {
         kept_goal(target)
@@ -123,13 +217,20 @@ fn goal_at(rule: TargetRule, items: &[Placed], count: usize, k: usize) -> Goal
 }
 
 /// Item `k` of the plan of the trampoline.
-fn branch_at(bits: Bits, items: &[Placed], count: usize, rule: TargetRule, k: usize) -> Branch
+fn branch_at(
+    bits: Bits,
+    items: &[Placed],
+    count: usize,
+    follow: usize,
+    rule: MoveRule,
+    k: usize,
+) -> Branch
     requires within { count ≤ length items.now }
     requires few { length items.now ≤ 65536 }
     requires item { k < length items.now }
-    ensures { result ≡ branch_with bits items.now (spec.trampoline_goal_at rule items.now count) k }
+    ensures { result ≡ branch_with bits items.now (spec.trampoline_goal_at rule items.now count follow) k }
 {
-    let goal = goal_at(rule, items, count, k);
+    let goal = goal_at(rule, items, count, follow, k);
     Branch {
         choices: choices_of(bits, &items[k].instr),
         goal,
@@ -142,38 +243,42 @@ fn plan_at(
     bits: Bits,
     items: &[Placed],
     count: usize,
+    follow: usize,
     place: u64,
-    rule: TargetRule,
+    rule: MoveRule,
 ) -> Result<Plan, AllocError>
     requires within { count ≤ length items.now }
     requires few { length items.now ≤ 65536 }
     requires placed { ArePlaced bits items.now }
-    ensures { IfOk result (λ plan. plan ≡ spec.plan_at bits items.now count place rule) }
+    ensures { IfOk result (λ plan. plan ≡ spec.plan_at bits items.now count follow place rule) }
 {
     laws_below();
     let mut branches = Vec::with_capacity(alloc, items.len())?;
     'items: for k in 0..items.len() {
-        branches.push(branch_at(bits, items, count, rule, k))?;
+        branches.push(branch_at(bits, items, count, follow, rule, k))?;
     }
     Ok(Plan::new(place, branches))
 }
 
-/// The moved instructions and the jump back at a place, with gap and slots.
+/// The instructions of the trampoline at a place, with gap and slots.
 pub(crate) fn lay_trampoline(
     alloc: Global,
     bits: Bits,
     ip: u64,
     taken: &Taken,
     place: u64,
-    rule: TargetRule,
+    rule: MoveRule,
 ) -> Result<MovedBlocks, PlanError>
     requires { IsTakenFit bits taken.now }
-    ensures { IsPlanAnswer bits (spec.block_items bits ip taken.now.items.items) (spec.trampoline_plan bits ip taken.now.items.items place rule)
-        (as_moving result) }
+    ensures answer { IsPlanAnswer bits (spec.block_items rule bits ip taken.now.items.items)
+        (spec.trampoline_plan bits ip taken.now.items.items place rule) (as_moving result) }
+    ensures placed { IfOk result (λ _. ArePlaced bits (spec.block_items rule bits ip taken.now.items.items)) }
 {
     laws_below();
-    let items = block_items(alloc, bits, ip, taken)?;
+    let called = pushed_last(rule, bits, taken);
+    let items = block_items(alloc, rule, bits, ip, taken, &called)?;
     let count = moved_count(&taken.items);
-    let plan = plan_at(alloc, bits, &items, count, place, rule)?;
+    let follow = follow_count(rule, bits, ip, taken, &called, &items);
+    let plan = plan_at(alloc, bits, &items, count, follow, place, rule)?;
     move_planned(alloc, bits, &items, &plan)
 }

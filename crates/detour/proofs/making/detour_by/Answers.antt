@@ -20,7 +20,7 @@ returns-in-Ok-None c =
     let are = subst (λ (n : ℕ). AreTaken c.args.bits c.args.ip c.args.code.now n c.in-Ok.taken.items.items) c.len.ensures.value h.1.0 in
     let entry : IsEntryAnswer code c.in-Ok.taken.items.items c.in-Ok-None.field-0 = c.in-Ok-None.ensures in
     let closed = subst (λ (e : Option (ℕ × ℕ)). IsEntryAnswer code c.in-Ok.taken.items.items e) c.in-Ok-None.field-0-is entry in
-    laid_answer c.laws_below.ensures c.args.bits c.args.ip c.args.code.now c.args.to c.args.place c.args.rule c.args.jump.now c.requires.jump c.in-Ok.taken are h.1.1 h.0.0.len h.0.0.placed closed
+    laid_answer c.laws_below.ensures c.args.bits c.args.ip c.args.code.now c.args.to c.args.place c.args.rule c.args.jump.now c.requires.jump c.in-Ok.taken are h.1.1 h.0.0.len closed
     c.lay_detour.result c.lay_detour.ensures
 
 pub returns-in-Ok-Some : goal.returns-in-Ok-Some

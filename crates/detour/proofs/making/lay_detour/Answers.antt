@@ -1,4 +1,4 @@
-use Rattle.std.proofs.Common.{length, arith, ap}
+use Rattle.std.proofs.Common.{length, arith, ap, sym, ◌∙◌}
 use Rattle.std.proofs.lemmas.List.FromFn.{length-map-range_with_len}
 use Rattle.branch_sizes.specs.Layout.{place}
 use Rattle.detour.specs.Trampoline.{IsTrampoline, block_items, trampoline_plan}
@@ -8,8 +8,8 @@ use Rattle.detour.proofs.making.lay_detour.Goals as goal
 pub put_together-requires-clause-back : goal.put_together-requires-clause-back
 put_together-requires-clause-back c goes =
     let items = c.args.taken.now.items.items in
-    let block : IsTrampoline c.args.bits c.args.ip items c.args.place c.args.rule c.in-Ok.moved = c.in-Ok.ensures in
+    let block : IsTrampoline c.args.bits c.args.ip items c.args.place c.args.rule c.in-Ok.moved = c.in-Ok.ensures.answer in
     let starts = ap length block.lists.starts in
-    let count = length-map-range_with_len (place (trampoline_plan c.args.bits c.args.ip items c.args.place c.args.rule) block.layout) 0 (length (block_items c.args.bits c.args.ip items)) in
-    let some = block_some c.args.bits c.args.ip items goes in
+    let count = length-map-range_with_len (place (trampoline_plan c.args.bits c.args.ip items c.args.place c.args.rule) block.layout) 0 (length (block_items c.args.rule c.args.bits c.args.ip items)) in
+    let some = block_some c.args.rule c.args.bits c.args.ip items (sym c.goes_back-back.ensures ∙ goes) in
     omega (arith, starts, count, some)

@@ -9,7 +9,7 @@ use Rattle.detour.proofs.trampoline.plan_at.Goals as goal
 
 pub items-preserved : goal.items-preserved
 items-preserved c =
-    c.laws_below.ensures.plans.one_more (branch_with c.args.bits c.args.items.now (trampoline_goal_at c.args.rule c.args.items.now c.args.count)) c.items.branches.items c.push.new.self.items c.items.k c.branch_at.result
+    c.laws_below.ensures.plans.one_more (branch_with c.args.bits c.args.items.now (trampoline_goal_at c.args.rule c.args.items.now c.args.count c.args.follow)) c.items.branches.items c.push.new.self.items c.items.k c.branch_at.result
     c.items.invariant c.in_ok-push.ensures.items c.branch_at.ensures
 
 pub new-requires-clause-few : goal.new-requires-clause-few
@@ -17,22 +17,22 @@ new-requires-clause-few c =
     omega (
       arith,
       ap length c.items.invariant,
-      length-map-range_with_len (branch_with c.args.bits c.args.items.now (trampoline_goal_at c.args.rule c.args.items.now c.args.count)) 0 c.items.k,
+      length-map-range_with_len (branch_with c.args.bits c.args.items.now (trampoline_goal_at c.args.rule c.args.items.now c.args.count c.args.follow)) 0 c.items.k,
       c.items.auto.k-end,
       c.requires.few,
     )
 
 pub new-requires-clause-fit : goal.new-requires-clause-fit
 new-requires-clause-fit c =
-    let f = branch_with c.args.bits c.args.items.now (trampoline_goal_at c.args.rule c.args.items.now c.args.count) in
+    let f = branch_with c.args.bits c.args.items.now (trampoline_goal_at c.args.rule c.args.items.now c.args.count c.args.follow) in
     let all : c.items.k ≡ length c.args.items.now = omega (arith, c.items-test.false, c.items.auto.k-end) in
     let are : c.items.branches.items ≡ map f (range_with_len 0 (length c.args.items.now)) = c.items.invariant ∙ ap (λ n. map f (range_with_len 0 n)) all in
-    items_fit c.laws_below.ensures c.args.bits c.args.items.now c.args.count c.args.rule c.requires.within c.requires.placed c.requires.few c.items.branches.items are
+    items_fit c.laws_below.ensures c.args.bits c.args.items.now c.args.count c.args.follow c.args.rule c.requires.within c.requires.placed c.requires.few c.items.branches.items are
 
 pub returns : goal.returns
 unfolding plan_at plan_with
 returns c =
-    let f = branch_with c.args.bits c.args.items.now (trampoline_goal_at c.args.rule c.args.items.now c.args.count) in
+    let f = branch_with c.args.bits c.args.items.now (trampoline_goal_at c.args.rule c.args.items.now c.args.count c.args.follow) in
     let all : c.items.k ≡ length c.args.items.now = omega (arith, c.items-test.false, c.items.auto.k-end) in
     let are : c.items.branches.items ≡ map f (range_with_len 0 (length c.args.items.now)) = c.items.invariant ∙ ap (λ n. map f (range_with_len 0 n)) all in
     c.new.ensures
