@@ -17,12 +17,14 @@ use crate::jumps::{ABSOLUTE_LEN, NEAR_LEN, absolute_jump, near_jump};
 use crate::laws_below::laws_below;
 use crate::parts::{Detour, JumpForm, Parts};
 use crate::start::StartTarget;
+use crate::starts::moved_starts;
 use crate::taken::{Taken, first_code_behind, first_end, offset_at, take};
 use crate::trampoline::lay_trampoline;
 use arrayvec::ArrayVec;
 use block_encoder::{MovedBlocks, PlanError};
 use flow_graph::FlowError;
 use move_goals::Placed;
+use move_goals::laws::first_numbers_pass;
 use std::alloc::{AllocError, Global};
 use x86_values::{Bits, wrap};
 
@@ -257,10 +259,15 @@ fn put_together(
     requires len { taken.now.len ≡ taken_bytes taken.now.items.items }
     requires fits { length jump.now.bytes.items ≤ taken.now.len }
     requires back { taken_spec.first_end taken.now.items.items ≡ None → 0 < length moved.now.starts }
+    requires few { length taken.now.items.items ≤ 65536 }
+    requires within { taken_spec.moved_count taken.now.items.items ≤ length moved.now.starts }
     ensures parts { IfOk result (λ d. IsPutTogether to place jump.now taken.now moved.now d) }
     ensures refused { IfErr result (λ why. why ≡ Memory) }
 {
     let parts = parts_of(place, &taken.items, moved, jump.relay);
+    let Ok(starts) = moved_starts(alloc, place, &taken.items, moved) else {
+        return Err(DetourError::Memory);
+    };
     let Ok(patch) = patch_of(alloc, &jump.bytes, taken.len) else {
         return Err(DetourError::Memory);
     };
@@ -271,6 +278,7 @@ fn put_together(
             parts,
             patch,
             trampoline,
+            moved: starts,
         }),
         Err(_) => Err(DetourError::Memory),
     }
@@ -291,6 +299,7 @@ fn lay_detour(
     requires fits { length jump.now.bytes.items ≤ taken.now.len }
     ensures { IsDetourLaid bits ip to place start jump.now taken.now result }
 {
+    first_numbers_pass();
     match lay_trampoline(alloc, bits, ip, taken, place, start) {
         Ok(moved) => put_together(alloc, to, place, jump, taken, &moved),
         Err(why) => Err(move_refusal(why)),
