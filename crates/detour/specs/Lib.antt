@@ -3,8 +3,10 @@ pub mod Reading
 pub mod LawsBelow
 pub mod Jumps
 pub mod Entries
+pub mod Starts
 pub mod Trampoline
 pub mod ReadBack
 pub mod Detours
+pub mod Rules
 pub mod Made
 pub mod HookSlots

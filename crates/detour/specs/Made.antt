@@ -16,6 +16,7 @@ use Rattle.detour.specs.declared.parts.JumpForm.TheVariants.{Near, Relay, Absolu
 use Rattle.detour.specs.declared.start.MoveRule.{MoveRule}
 use Rattle.detour.specs.Reading.{IsTakenFit}
 use Rattle.detour.specs.Jumps.{IsNearJump, IsOutOfReach, absolute_jump}
+use Rattle.detour.specs.Starts.{starts_of, places_of}
 use Rattle.detour.specs.Trampoline.{IsTrampoline, goes_back, block_items, trampoline_plan}
 use Rattle.detour.specs.Detours.{IsTakenAnswer, DetourState, patch_of, relay_bytes, parts_of}
 
@@ -47,6 +48,8 @@ pub record IsPutTogether (to place : ℕ) (back : Bool) (jump : Jump) (t : Taken
   pub patch : d.patch ≡ patch_of jump.bytes.items t.len
   pub trampoline : d.trampoline ≡ m.bytes ++ relay_bytes jump.relay to
   pub parts : d.parts ≡ parts_of back place m jump.relay
+  pub starts : d.starts ≡ starts_of t.items.items
+  pub places : d.places ≡ places_of t.items.items place m
 
 -- what is taken is moved and put together, or not moved for this cause
 abbrev pub IsLaidBy : Bits → ℕ → ℕ → ℕ → MoveRule → Jump → Taken → DetourState → Type 0

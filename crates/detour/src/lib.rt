@@ -8,11 +8,14 @@ mod jumps;
 mod laws_below;
 mod making;
 mod parts;
+mod rules;
 mod start;
+mod starts;
 mod taken;
 mod trampoline;
 
 pub use error::DetourError;
 pub use making::detour;
 pub use parts::{Detour, JumpForm, Parts};
+pub use rules::{RuleError, SeenDetour, detour_with};
 pub use start::StartTarget;

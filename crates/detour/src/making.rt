@@ -7,8 +7,9 @@ ghost use Rattle.detour.specs.Detours as spec;
 ghost use Rattle.detour.specs.Detours.{IsRelay, IsRelayBehind, IsJumpOf, IsAnswerTo, IsDetourAnswer, relay_bytes};
 ghost use Rattle.block_encoder.specs.declared.error.PlanError.TheVariants as plan_error;
 ghost use Rattle.detour.specs.Made.{IsWholeTaken, IsFarJump, IsPutTogether, IsDetourLaid, detour_error_of};
-ghost use Rattle.detour.specs.Reading.{IsTakenFit};
+ghost use Rattle.detour.specs.Reading.{AreCoded, IsTakenFit};
 ghost use Rattle.detour.specs.Taken.{taken_bytes};
+ghost use Rattle.detour.specs.Taken as taken_spec;
 
 use crate::entries::first_entry;
 use crate::error::DetourError;
@@ -16,12 +17,14 @@ use crate::jumps::{ABSOLUTE_LEN, NEAR_LEN, absolute_jump, near_jump};
 use crate::laws_below::laws_below;
 use crate::parts::{Detour, JumpForm, Parts};
 use crate::start::{MoveRule, StartTarget};
+use crate::starts::moved_starts;
 use crate::taken::{Taken, first_code_behind, offset_at, take};
 use crate::trampoline::{goes_back, lay_trampoline};
 use arrayvec::ArrayVec;
 use block_encoder::{MovedBlocks, PlanError};
 use flow_graph::FlowError;
 use move_goals::Placed;
+use move_goals::laws::first_numbers_pass;
 use std::alloc::{AllocError, Global};
 use x86_values::{Bits, wrap};
 
@@ -254,11 +257,17 @@ fn put_together(
 ) -> Result<Detour, DetourError>
     requires len { taken.now.len ≡ taken_bytes taken.now.items.items }
     requires fits { length jump.now.bytes.items ≤ taken.now.len }
+    requires coded { AreCoded taken.now.items.items }
     requires back { back ≡ true → 0 < length moved.now.starts }
+    requires few { length taken.now.items.items ≤ 65536 }
+    requires within { taken_spec.moved_count taken.now.items.items ≤ length moved.now.starts }
     ensures parts { IfOk result (λ d. IsPutTogether to place back jump.now taken.now moved.now d) }
     ensures refused { IfErr result (λ why. why ≡ Memory) }
 {
     let parts = parts_of(place, back, moved, jump.relay);
+    let Ok(starts) = moved_starts(alloc, place, &taken.items, moved) else {
+        return Err(DetourError::Memory);
+    };
     let Ok(patch) = patch_of(alloc, &jump.bytes, taken.len) else {
         return Err(DetourError::Memory);
     };
@@ -269,6 +278,7 @@ fn put_together(
             parts,
             patch,
             trampoline,
+            moved: starts,
         }),
         Err(_) => Err(DetourError::Memory),
     }
@@ -289,6 +299,7 @@ fn lay_detour(
     requires fits { length jump.now.bytes.items ≤ taken.now.len }
     ensures { IsDetourLaid bits ip to place rule jump.now taken.now result }
 {
+    first_numbers_pass();
     match lay_trampoline(alloc, bits, ip, taken, place, rule) {
         Ok(moved) => {
             let back = goes_back(rule, bits, taken);

@@ -1,7 +1,9 @@
 //! What a detour is made of.
 
 ghost use Rattle.std.specs.Prelude.{◌≡◌};
+ghost use Rattle.detour.specs.Starts.{counterpart};
 
+use crate::starts::MovedStarts;
 use std::marker::Model;
 
 /// How the jump of a detour reaches the replacement.
@@ -34,6 +36,7 @@ pub struct Detour {
     pub(crate) parts: Parts,
     pub(crate) patch: Vec<u8>,
     pub(crate) trampoline: Vec<u8>,
+    pub(crate) moved: MovedStarts,
 }
 
 impl Model for Detour {
@@ -42,7 +45,7 @@ impl Model for Detour {
 
     ghost Value = { DetourState };
 
-    ghost view = { λ d. record { form = d.form; taken = d.taken; parts = d.parts; patch = d.patch.items; trampoline = d.trampoline.items } };
+    ghost view = { λ d. record { form = d.form; taken = d.taken; parts = d.parts; patch = d.patch.items; trampoline = d.trampoline.items; starts = d.moved.starts.items; places = d.moved.places.items } };
 
     ghost invariant = { λ d. ⊤ };
 }
@@ -81,5 +84,34 @@ impl Detour {
         ensures { result.now ≡ self.now.trampoline }
     {
         &self.trampoline
+    }
+
+    /// Returns the offset in the function at which each moved instruction begins, in order.
+    pub fn starts(&self) -> &[u32]
+        ensures { result.now ≡ self.now.starts }
+    {
+        &self.moved.starts
+    }
+
+    /// Returns the offset in the trampoline at which the image of each moved instruction begins, in the order of [`starts`](Detour::starts).
+    pub fn places(&self) -> &[u64]
+        ensures { result.now ≡ self.now.places }
+    {
+        &self.moved.places
+    }
+
+    /// Returns the offset in the trampoline of the moved instruction that begins at the offset `start` of the function, if one begins there. So an
+    /// address in the function is one in the trampoline: that of a thread that stands there, or of an entry.
+    pub fn place_of(&self, start: u32) -> Option<u64>
+        ensures { result ≡ counterpart self.now.starts self.now.places start }
+    {
+        self.moved.place_of(start)
+    }
+
+    /// Returns the offset in the function of the moved instruction whose image begins at the offset `place` of the trampoline, if one begins there.
+    pub fn start_of(&self, place: u64) -> Option<u32>
+        ensures { result ≡ counterpart self.now.places self.now.starts place }
+    {
+        self.moved.start_of(place)
     }
 }

@@ -1,6 +1,6 @@
 //! The instructions that are taken.
 
-ghost use Rattle.std.specs.Prelude.{◌≡◌, ◌+◌, ◌<◌, ◌≤◌, drop, length, IsTrue, IfOk, IfSome};
+ghost use Rattle.std.specs.Prelude.{◌≡◌, ◌+◌, ◌*◌, ◌<◌, ◌≤◌, drop, length, IsTrue, IfOk, IfSome};
 ghost use Rattle.move_goals.specs.Items as old;
 ghost use Rattle.detour.specs.Reading.{IsItemRead, IsFront, AreCoded, IsFrontAnswer};
 ghost use Rattle.detour.specs.Taken as spec;
@@ -123,7 +123,8 @@ pub(crate) fn moved_count(items: &[Placed]) -> usize
 pub(crate) fn offset_at(items: &[Placed], k: usize) -> usize
     requires within { k ≤ length items.now }
     requires few { length items.now ≤ 65536 }
-    ensures { result ≡ spec.offset_at items.now k }
+    ensures value { result ≡ spec.offset_at items.now k }
+    ensures small { result ≤ 255 * k }
 {
     let mut offset = 0;
     'items: for j in 0..k {

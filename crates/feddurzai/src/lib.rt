@@ -163,11 +163,15 @@ pub mod flow {
 
 /// Hooks: what is written over the first bytes of a function, and the trampoline that does what they did; and those that are live, with their trampolines in
 /// a range of addresses. `laws` has that these stay apart, each with its bytes, after any list of installs and removals. `look` returns what is seen of the
-/// function: how far control can be followed, and what goes into the overwritten bytes; `sight_laws` is about that.
+/// function: how far control can be followed, and what goes into the overwritten bytes; `sight_laws` is about that. `detour_with` makes a detour only
+/// where nothing that is seen speaks against it.
 pub mod hooks {
     pub use detour::hook_slots::{
         Hook, HookCommand, HookReply, Hooks, InstallError, MakeError, NotTaken, laws, replay,
     };
-    pub use detour::{Detour, DetourError, JumpForm, Parts, StartTarget, detour};
+    pub use detour::{
+        Detour, DetourError, JumpForm, Parts, RuleError, SeenDetour, StartTarget, detour,
+        detour_with,
+    };
     pub use hook_sight::{Passage, Sight, SightEnd, StartRule, View, laws as sight_laws, look};
 }

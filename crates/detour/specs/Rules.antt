@@ -1,0 +1,127 @@
+-- A detour by rules: nothing that is seen of the function speaks against it, and its trampoline stands apart from the code.
+use Rattle.std.specs.Prelude.{◌≡◌, ℕ, nat_lt, Bool, true, false, ◌&&◌, ◌||◌, if◌then◌else◌, List, length, Option, Some, None, Result, Ok, Err, IsTrue}
+use Rattle.std.specs.Option.{option_or}
+use Rattle.x86_values.specs.declared.Bits.{Bits}
+use Rattle.plain_spelling.specs.Values.{distance}
+use Rattle.flow_graph.specs.Control.{code_bytes}
+use Rattle.hook_sight.specs.declared.answers.Passage.{Passage}
+use Rattle.hook_sight.specs.declared.answers.Sight.{Sight}
+use Rattle.hook_sight.specs.declared.answers.Sight.TheVariants.{Whole, Ends}
+use Rattle.hook_sight.specs.declared.answers.StartRule.{StartRule}
+use Rattle.hook_sight.specs.declared.answers.StartRule.TheVariants.{Open, Closed}
+use Rattle.hook_sight.specs.declared.answers.View.{View}
+use Rattle.hook_sight.specs.Entries.{part_of}
+use Rattle.hook_sight.specs.Views.{IsView}
+use Rattle.detour.specs.declared.error.DetourError.{DetourError}
+use Rattle.detour.specs.declared.error.DetourError.TheVariants as detour_error
+use Rattle.detour.specs.declared.rules.RuleError.{RuleError}
+use Rattle.detour.specs.declared.rules.RuleError.TheVariants.{Detour, Overlaps, Entered, Unseen}
+use Rattle.detour.specs.declared.rules.SeenDetour.{SeenDetour}
+use Rattle.detour.specs.declared.start.StartTarget.{StartTarget}
+use Rattle.detour.specs.declared.start.StartTarget.TheVariants.{Moved, Hooked}
+use Rattle.detour.specs.Detours.{DetourState, IsDetourAnswer}
+
+-- ---- where the trampoline stands
+
+-- an address is one of so many from another on, in the mode
+abbrev pub is_within : Bits → ℕ → ℕ → ℕ → Bool
+is_within bits base len at = nat_lt (distance bits base at) len
+
+-- two ranges have an address in common: neither is empty, and one begins within the other; addresses wrap
+unfoldable pub overlaps : Bits → ℕ → ℕ → ℕ → ℕ → Bool
+overlaps bits ip len place other =
+    nat_lt 0 len && (nat_lt 0 other && (is_within bits ip len place || is_within bits place other ip))
+
+-- the trampoline would stand in the given bytes of the function
+abbrev pub lies_in : Bits → ℕ → List ℕ → ℕ → DetourState → Bool
+lies_in bits ip code place d = overlaps bits ip (length code) place (length d.trampoline)
+
+-- ---- what is seen
+
+-- If a target at the start is the moved first instruction, a loop from behind the overwritten bytes would miss it and
+-- meet the patch: the start is closed. If it is the replacement, the start is open.
+abbrev pub rule_of : StartTarget → StartRule
+rule_of Moved = Closed
+rule_of Hooked = Open
+
+-- what is seen of the function where a detour overwrites its first bytes
+abbrev pub IsViewOver : Bits → ℕ → List ℕ → List ℕ → StartTarget → DetourState → View → Type 0
+IsViewOver bits ip code entries start d view =
+    IsView (code_bytes bits ip code) entries (part_of d.taken d.starts (rule_of start)) view
+
+-- an entry within the overwritten bytes is entered: it has its own offset twice
+abbrev pub inside_refusal : Option ℕ → Option RuleError
+inside_refusal None = None
+inside_refusal (Some entry) = Some (Entered entry entry)
+
+-- control goes there
+abbrev pub entered_refusal : Option Passage → Option RuleError
+entered_refusal None = None
+entered_refusal (Some passage) = Some (Entered passage.from passage.target)
+
+-- sight ends although whole sight was asked for
+abbrev pub sight_refusal : Bool → Sight → Option RuleError
+sight_refusal whole Whole = None
+sight_refusal whole (Ends at why) = if whole then Some (Unseen at why) else None
+
+-- the first cause against a detour in what is seen: an entry, a passage, the end of sight
+abbrev pub view_refusal : Bool → View → Option RuleError
+view_refusal whole view =
+    option_or (inside_refusal view.inside) (option_or (entered_refusal view.entered) (sight_refusal whole view.sight))
+
+-- the detour with what was seen, unless there is a cause against it
+abbrev pub judged_by : Option RuleError → DetourState → View → Result SeenDetour RuleError
+judged_by None d view = Ok (record { detour = d; view = view })
+judged_by (Some why) d view = Err why
+
+-- ---- the answer
+
+-- a detour is allowed: its trampoline stands apart from the code, no entry and no passage into the overwritten bytes is
+-- seen, and all is seen if that was asked for
+pub record IsAllowed (bits : Bits) (ip : ℕ) (code : List ℕ) (place : ℕ) (start : StartTarget) (entries : List ℕ)
+    (whole : Bool) (d : DetourState) (view : View) : Type 0 where
+  pub apart : lies_in bits ip code place d ≡ false
+  pub is_view : IsViewOver bits ip code entries start d view
+  pub inside : view.inside ≡ None
+  pub entered : view.entered ≡ None
+  pub sight : IsTrue whole → view.sight ≡ Whole
+
+-- a detour whose trampoline stands apart from the code is refused for what is seen
+pub record IsRefused (bits : Bits) (ip : ℕ) (code : List ℕ) (place : ℕ) (start : StartTarget) (entries : List ℕ)
+    (whole : Bool) (d : DetourState) (why : RuleError) : Type 0 where
+  pub apart : lies_in bits ip code place d ≡ false
+  pub view : View
+  pub is_view : IsViewOver bits ip code entries start d view
+  pub cause : view_refusal whole view ≡ Some why
+
+-- what the rules say of a detour
+abbrev pub IsRuled : Bits → ℕ → List ℕ → ℕ → StartTarget → List ℕ → Bool → DetourState → Result SeenDetour RuleError
+    → Type 0
+IsRuled bits ip code place start entries whole d (Ok seen) =
+    (seen.detour ≡ d) × IsAllowed bits ip code place start entries whole d seen.view
+IsRuled bits ip code place start entries whole d (Err (Detour why)) = why ≡ detour_error.Memory
+IsRuled bits ip code place start entries whole d (Err Overlaps) = lies_in bits ip code place d ≡ true
+IsRuled bits ip code place start entries whole d (Err (Entered from target)) =
+    IsRefused bits ip code place start entries whole d (Entered from target)
+IsRuled bits ip code place start entries whole d (Err (Unseen at why)) =
+    IsRefused bits ip code place start entries whole d (Unseen at why)
+
+-- the answer: the detour that is allowed; or that there is none; or that there is one, which has its trampoline in the
+-- code, or is refused for what is seen
+abbrev pub IsRuledAnswer : Bits → ℕ → List ℕ → ℕ → ℕ → StartTarget → List ℕ → Bool → Result SeenDetour RuleError
+    → Type 0
+IsRuledAnswer bits ip code to place start entries whole (Ok seen) =
+    IsDetourAnswer bits ip code to place start (Ok seen.detour)
+    × IsAllowed bits ip code place start entries whole seen.detour seen.view
+IsRuledAnswer bits ip code to place start entries whole (Err (Detour why)) =
+    IsDetourAnswer bits ip code to place start (Err why)
+IsRuledAnswer bits ip code to place start entries whole (Err Overlaps) =
+    (d : DetourState) × (IsDetourAnswer bits ip code to place start (Ok d) × (lies_in bits ip code place d ≡ true))
+IsRuledAnswer bits ip code to place start entries whole (Err (Entered from target)) =
+    (d : DetourState)
+    × (IsDetourAnswer bits ip code to place start (Ok d)
+    × IsRefused bits ip code place start entries whole d (Entered from target))
+IsRuledAnswer bits ip code to place start entries whole (Err (Unseen at why)) =
+    (d : DetourState)
+    × (IsDetourAnswer bits ip code to place start (Ok d)
+    × IsRefused bits ip code place start entries whole d (Unseen at why))

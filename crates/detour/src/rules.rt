@@ -1,0 +1,221 @@
+//! A detour by rules on what is seen of the function.
+
+ghost use Rattle.std.specs.Prelude.{◌≡◌, ◌≤◌, length, IfOk};
+ghost use Rattle.detour.specs.Rules as spec;
+ghost use Rattle.detour.specs.Rules.{IsViewOver, IsRuled, IsRuledAnswer};
+ghost use Rattle.detour.specs.declared.rules.RuleError.TheVariants as error;
+
+use crate::error::DetourError;
+use crate::making::detour;
+use crate::parts::Detour;
+use crate::start::StartTarget;
+use flow_graph::FlowError;
+use hook_sight::{Passage, Sight, SightEnd, StartRule, View, look};
+use plain_spelling::numbers::distance;
+use std::alloc::Global;
+use thiserror::Error;
+use x86_values::Bits;
+
+/// Why a function gets no detour by rules. If several causes hold, the first is reported. `Detour(DetourError::Memory)` can replace any of them.
+///
+/// Offsets count from the function's first byte.
+#[derive(Clone, Copy, PartialEq, Eq, Debug, Error)]
+pub enum RuleError {
+    /// There is no detour, for this cause.
+    #[error("{0}")]
+    Detour(DetourError),
+    /// The trampoline would lie in the given bytes of the function.
+    #[error("the trampoline would lie in the code of the function")]
+    Overlaps,
+    /// Control may go from the first offset to the second one, which would be overwritten. For an entry both are its own offset.
+    #[error("control may come from offset {from:#x} to offset {target:#x}, which would be written over")]
+    Entered { from: usize, target: usize },
+    /// Whole sight was asked for, and sight ends at this offset.
+    #[error("control cannot be followed at offset {at:#x}")]
+    Unseen { at: usize, why: SightEnd },
+}
+
+impl From<DetourError> for RuleError {
+    ghost from_gives = { λ why e. e ≡ error.Detour why };
+
+    fn from(why: DetourError) -> RuleError {
+        RuleError::Detour(why)
+    }
+}
+
+/// A detour, and what was seen of the function.
+#[derive(Drop)]
+pub struct SeenDetour {
+    /// The detour.
+    pub detour: Detour,
+    /// What was seen of the function with the detour's patch over its first bytes.
+    pub view: View,
+}
+
+/// Whether an address is one of the `len` addresses from another one on, in a mode.
+fn is_within(bits: Bits, base: u64, len: usize, at: u64) -> bool
+    ensures { result ≡ spec.is_within bits base len at }
+{
+    distance(bits, base, at) < len as u64
+}
+
+/// Whether two ranges of addresses of a mode have an address in common.
+#[tactic(auto, using(std::proofs::lemmas::Bool::Decides::nat_tests), unfolding(crate::specs::Rules::overlaps))]
+fn overlaps(bits: Bits, ip: u64, len: usize, place: u64, other: usize) -> bool
+    ensures { result ≡ spec.overlaps bits ip len place other }
+{
+    len > 0 && other > 0 && (is_within(bits, ip, len, place) || is_within(bits, place, other, ip))
+}
+
+/// Whether the trampoline of a detour at a place would lie in the given bytes of the function.
+fn lies_in(bits: Bits, ip: u64, code: &[u8], place: u64, made: &Detour) -> bool
+    ensures { result ≡ spec.lies_in bits ip code.now place made.now }
+{
+    overlaps(bits, ip, code.len(), place, made.trampoline().len())
+}
+
+/// The rule for control that comes back to the start, by what becomes of targets there.
+fn rule_of(start: StartTarget) -> StartRule
+    ensures { result ≡ spec.rule_of start }
+{
+    match start {
+        StartTarget::Moved => StartRule::Closed,
+        StartTarget::Hooked => StartRule::Open,
+    }
+}
+
+/// What is seen of a function whose first bytes a detour overwrites.
+fn view_over(
+    alloc: Global,
+    bits: Bits,
+    ip: u64,
+    code: &[u8],
+    entries: &[u32],
+    made: &Detour,
+    start: StartTarget,
+) -> Result<View, FlowError>
+    requires { length code.now ≤ 1048576 }
+    ensures { IfOk result (λ view. IsViewOver bits ip code.now entries.now start made.now view) }
+{
+    let taken = made.taken();
+    let starts = made.starts();
+    let rule = rule_of(start);
+    look(alloc, bits, ip, code, entries, taken, starts, rule)
+}
+
+/// The cause that an entry is against a detour, if there is one within the overwritten bytes.
+fn inside_refusal(inside: Option<usize>) -> Option<RuleError>
+    ensures { result ≡ spec.inside_refusal inside }
+{
+    match inside {
+        None => None,
+        Some(entry) => Some(RuleError::Entered {
+            from: entry,
+            target: entry,
+        }),
+    }
+}
+
+/// The cause that a passage into the overwritten bytes is against a detour, if there is one.
+fn entered_refusal(entered: Option<Passage>) -> Option<RuleError>
+    ensures { result ≡ spec.entered_refusal entered }
+{
+    match entered {
+        None => None,
+        Some(Passage { from, target }) => Some(RuleError::Entered { from, target }),
+    }
+}
+
+/// The cause that the end of sight is against a detour, if whole sight was asked for.
+fn sight_refusal(whole: bool, sight: Sight) -> Option<RuleError>
+    ensures { result ≡ spec.sight_refusal whole sight }
+{
+    match sight {
+        Sight::Whole => None,
+        Sight::Ends { at, why } => {
+            if whole { Some(RuleError::Unseen { at, why }) } else { None }
+        }
+    }
+}
+
+/// The first cause against a detour in what is seen.
+fn view_refusal(whole: bool, view: &View) -> Option<RuleError>
+    ensures { result ≡ spec.view_refusal whole view.now }
+{
+    inside_refusal(view.inside)
+        .or(entered_refusal(view.entered).or(sight_refusal(whole, view.sight)))
+}
+
+/// The detour with what was seen, unless there is a cause against it.
+fn judged(whole: bool, made: Detour, view: View) -> Result<SeenDetour, RuleError>
+    ensures { result ≡ spec.judged_by (spec.view_refusal whole view) made view }
+{
+    match view_refusal(whole, &view) {
+        None => Ok(SeenDetour { detour: made, view }),
+        Some(why) => Err(why),
+    }
+}
+
+/// What the rules say of a detour.
+fn ruled(
+    alloc: Global,
+    bits: Bits,
+    ip: u64,
+    code: &[u8],
+    place: u64,
+    start: StartTarget,
+    entries: &[u32],
+    whole: bool,
+    made: Detour,
+) -> Result<SeenDetour, RuleError>
+    requires { length code.now ≤ 1048576 }
+    ensures { IsRuled bits ip code.now place start entries.now whole made result }
+{
+    if lies_in(bits, ip, code, place, &made) {
+        return Err(RuleError::Overlaps);
+    }
+    match view_over(alloc, bits, ip, code, entries, &made, start) {
+        Ok(view) => judged(whole, made, view),
+        Err(FlowError::Memory) => Err(RuleError::Detour(DetourError::Memory)),
+    }
+}
+
+/// Makes a detour as [`detour`](crate::detour) does, unless the trampoline would lie in the code, or control may enter what is overwritten: from
+/// anything that is reached from the first byte or from an entry. It returns the detour with what was seen of the function.
+///
+/// `code` is the function, at most 1,048,576 bytes from its first byte on, whose address is `ip`. `to` is the address of the replacement, and `place`
+/// that of the trampoline. `entries` are further offsets at which the function begins, as for [`look`](hook_sight::look): targets of jump tables,
+/// landing pads, parts that a compiler moved away. With `whole`, the detour is refused if sight ends anywhere, since what is not seen may enter too;
+/// without it, the view says where sight ends, and the first suspect.
+///
+/// If targets at the start are moved (`StartTarget::Moved`), a loop from behind the overwritten bytes to the start is refused as well: it would run
+/// into the patch. Calls of the start are recursion, and reach the replacement.
+///
+/// Errors, in this order:
+///
+/// - `Detour`: there is no detour, for its cause.
+/// - `Overlaps`: an address of the trampoline is one of the given bytes. Both ranges wrap at the address size of the mode.
+/// - `Entered`: the least entry within the overwritten bytes after the first of them, with its offset twice; else the first offset from which
+///   control goes into them, and where.
+/// - `Unseen`: whole sight was asked for, and sight ends at this offset.
+///
+/// `Detour(DetourError::Memory)` can replace any of them.
+pub fn detour_with(
+    alloc: Global,
+    bits: Bits,
+    ip: u64,
+    code: &[u8],
+    to: u64,
+    place: u64,
+    start: StartTarget,
+    entries: &[u32],
+    whole: bool,
+) -> Result<SeenDetour, RuleError>
+    requires { length code.now ≤ 1048576 }
+    ensures { IsRuledAnswer bits ip code.now to place start entries.now whole result }
+{
+    match detour(alloc, bits, ip, code, to, place, start) {
+        Ok(made) => ruled(alloc, bits, ip, code, place, start, entries, whole, made),
+        Err(why) => Err(RuleError::Detour(why)),
+    }
+}
