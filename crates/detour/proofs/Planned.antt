@@ -22,9 +22,10 @@ use Rattle.pushed_calls.specs.Items.{return_address, jump_item, with_jump, with_
 use Rattle.detour.specs.LawsBelow.{DetourLawsBelow}
 use Rattle.detour.specs.declared.start.StartTarget.{StartTarget}
 use Rattle.detour.specs.declared.start.StartTarget.TheVariants.{Moved, Hooked}
+use Rattle.move_goals.specs.Facts.{FirstFacts}
 use Rattle.detour.specs.declared.start.MoveRule.{MoveRule}
 use Rattle.detour.specs.Trampoline.{address_behind_taken, jump_back, back_items, pushed_by, pushed_last, goes_back, block_by, block_items, trampoline_goal_among, moved_goal, target_stays, trampoline_goal_at, plan_at}
-use Rattle.detour.specs.Taken.{taken_bytes, first_end, moved_count}
+use Rattle.detour.specs.Taken.{taken_bytes, item_goes_on, first_end, count_to, moved_count}
 use Rattle.detour.proofs.Front.{each_more}
 use Rattle.detour.proofs.Jumping.{jump-placed}
 
@@ -99,6 +100,18 @@ call_placed bits (Some call) called e placed pushed is =
     let same : items_in call ≡ pushed = cc in subst (λ (xs : List Placed). ArePlaced bits xs) same placed
 
 -- ---- the instructions of a trampoline
+
+counted : (end : Option ℕ) (n : ℕ) → ((k : ℕ) → end ≡ Some k → k < n) → count_to end n ≤ n
+counted None n below = omega arith
+counted (Some k) n below = omega (arith, below k refl)
+
+-- no more are moved than are taken
+pub count_within : (firsts : FirstFacts) (items : List Placed) → moved_count items ≤ length items
+unfolding first_end
+count_within firsts items =
+    counted (first_end items) (length items)
+    (λ k e. (firsts.some_below (λ j. not (item_goes_on (item_at items j))) (length items) k e).0)
+
 
 back_few : (bits : Bits) (ip : ℕ) (items : List Placed) → length (back_items bits ip items) ≤ 1
 back_few bits ip items =
