@@ -130,6 +130,7 @@ module _ (laws : DetourLawsBelow) (bits : Bits) (ip : ℕ) (code : List ℕ) (to
           parts = h.1.1.parts;
           starts = h.1.1.starts;
           places = h.1.1.places;
+          call = h.1.1.call;
           patch_read = subst (λ (bs : List ℕ). IsPatchRead bits ip to jump.form jump.bytes.items jump.relay bs) (sym patch)
               (patch_read laws bits ip code to place rule jump.form jump.bytes.items jump.relay first (taken_bytes t.items.items));
           trampoline_read = trampoline_read laws bits ip t.items.items place rule h.1.0.1 h.0 h.1.0.0;

@@ -18,6 +18,7 @@ use Rattle.detour.specs.declared.start.StartTarget.{StartTarget}
 use Rattle.detour.specs.declared.start.MoveRule.{MoveRule}
 use Rattle.detour.specs.Taken.{AreTaken, IsBadCode, IsTooSmall, IsCodeBehind, taken_bytes, first_end, first_code_behind}
 use Rattle.detour.specs.Starts.{starts_of, places_of}
+use Rattle.detour.specs.Calls.{call_in}
 use Rattle.detour.specs.Jumps.{IsNearJump, IsOutOfReach, absolute_jump}
 use Rattle.detour.specs.Entries.{IsFirstEntry, IsNotEntered}
 use Rattle.detour.specs.Trampoline.{IsTrampoline, goes_back, block_items, trampoline_plan}
@@ -93,6 +94,7 @@ pub record DetourState : Type 0 where
   pub trampoline : List ℕ
   pub starts : List ℕ
   pub places : List ℕ
+  pub call : Option ℕ
 
 -- the jump, and INT3 up to the end of what is taken
 unfoldable pub patch_of : List ℕ → ℕ → List ℕ
@@ -129,6 +131,7 @@ pub record IsDetour (bits : Bits) (ip : ℕ) (code : List ℕ) (to place : ℕ) 
   pub parts : d.parts ≡ parts_of (goes_back rule bits items) place moved jump.relay
   pub starts : d.starts ≡ starts_of items
   pub places : d.places ≡ places_of items place moved
+  pub call : d.call ≡ call_in rule bits items
   pub patch_read : IsPatchRead bits ip to jump.form jump.bytes jump.relay d.patch
   pub trampoline_read : IsTrampolineRead bits ip items place rule block.layout
   pub relay_read : IsRelayRead to place (length moved.bytes) jump.relay d.trampoline

@@ -5,6 +5,7 @@ pub mod Jumps
 pub mod Entries
 pub mod Starts
 pub mod Trampoline
+pub mod Calls
 pub mod ReadBack
 pub mod Detours
 pub mod Rules

@@ -17,6 +17,7 @@ use Rattle.detour.specs.declared.start.MoveRule.{MoveRule}
 use Rattle.detour.specs.Reading.{IsTakenFit}
 use Rattle.detour.specs.Jumps.{IsNearJump, IsOutOfReach, absolute_jump}
 use Rattle.detour.specs.Starts.{starts_of, places_of}
+use Rattle.detour.specs.Calls.{call_in}
 use Rattle.detour.specs.Trampoline.{IsTrampoline, goes_back, block_items, trampoline_plan}
 use Rattle.detour.specs.Detours.{IsTakenAnswer, DetourState, patch_of, relay_bytes, parts_of}
 
@@ -42,7 +43,7 @@ abbrev pub IsFarJump : Bits → ℕ → ℕ → Option ℕ → Jump → Type 0
 IsFarJump bits ip to relay jump = IsFarJumpOf bits ip to relay jump.form jump.bytes.items jump.relay
 
 -- a detour is put together of what is taken and moved
-pub record IsPutTogether (to place : ℕ) (back : Bool) (jump : Jump) (t : Taken) (m : MovedLists) (d : DetourState) : Type 0 where
+pub record IsPutTogether (to place : ℕ) (back : Bool) (call : Option ℕ) (jump : Jump) (t : Taken) (m : MovedLists) (d : DetourState) : Type 0 where
   pub form : d.form ≡ jump.form
   pub taken : d.taken ≡ t.len
   pub patch : d.patch ≡ patch_of jump.bytes.items t.len
@@ -50,12 +51,13 @@ pub record IsPutTogether (to place : ℕ) (back : Bool) (jump : Jump) (t : Taken
   pub parts : d.parts ≡ parts_of back place m jump.relay
   pub starts : d.starts ≡ starts_of t.items.items
   pub places : d.places ≡ places_of t.items.items place m
+  pub call : d.call ≡ call
 
 -- what is taken is moved and put together, or not moved for this cause
 abbrev pub IsLaidBy : Bits → ℕ → ℕ → ℕ → MoveRule → Jump → Taken → DetourState → Type 0
 IsLaidBy bits ip to place rule jump t d =
     (m : MovedLists) × ((IsTrampoline bits ip t.items.items place rule m × ArePlaced bits (block_items rule bits ip t.items.items))
-    × IsPutTogether to place (goes_back rule bits t.items.items) jump t m d)
+    × IsPutTogether to place (goes_back rule bits t.items.items) (call_in rule bits t.items.items) jump t m d)
 
 -- what is taken gives the detour, or the moving of it is refused for the cause that the error names
 abbrev pub IsDetourLaid : Bits → ℕ → ℕ → ℕ → MoveRule → Jump → Taken → Result DetourState DetourError → Type 0

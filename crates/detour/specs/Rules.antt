@@ -2,6 +2,7 @@
 use Rattle.std.specs.Prelude.{◌≡◌, ℕ, nat_lt, Bool, true, false, ◌&&◌, ◌||◌, if◌then◌else◌, List, length, Option, Some, None, Result, Ok, Err, IsTrue}
 use Rattle.std.specs.Option.{option_or}
 use Rattle.x86_values.specs.declared.Bits.{Bits}
+use Rattle.x86_values.specs.Wrapping.{modulo_width}
 use Rattle.plain_spelling.specs.Values.{distance}
 use Rattle.flow_graph.specs.Control.{code_bytes}
 use Rattle.hook_sight.specs.declared.answers.Passage.{Passage}
@@ -15,11 +16,23 @@ use Rattle.hook_sight.specs.Views.{IsView}
 use Rattle.detour.specs.declared.error.DetourError.{DetourError}
 use Rattle.detour.specs.declared.error.DetourError.TheVariants as detour_error
 use Rattle.detour.specs.declared.rules.RuleError.{RuleError}
-use Rattle.detour.specs.declared.rules.RuleError.TheVariants.{Detour, Overlaps, Entered, Unseen}
+use Rattle.detour.specs.declared.rules.RuleError.TheVariants.{Detour, Overlaps, Calls, Entered, Unseen}
+use Rattle.detour.specs.declared.rules.HookRules.{HookRules}
 use Rattle.detour.specs.declared.rules.SeenDetour.{SeenDetour}
 use Rattle.detour.specs.declared.start.StartTarget.{StartTarget}
 use Rattle.detour.specs.declared.start.StartTarget.TheVariants.{Moved, Hooked}
-use Rattle.detour.specs.Detours.{DetourState, IsDetourAnswer}
+use Rattle.detour.specs.declared.start.MoveRule.{MoveRule}
+use Rattle.detour.specs.Detours.{DetourState, IsAnswerTo}
+
+-- ---- how the instructions are moved
+
+-- addresses at RIP and EIP stay; the rest is as it is asked
+abbrev pub move_rule : HookRules → MoveRule
+move_rule rules = record { start = rules.start; rip_stays = true; returns = rules.returns }
+
+-- the detour by that, or why there is none; the address of the replacement is taken modulo 2 to the number of bits of the mode
+abbrev pub IsMade : Bits → ℕ → List ℕ → ℕ → ℕ → HookRules → Result DetourState DetourError → Type 0
+IsMade bits ip code to place rules answer = IsAnswerTo bits ip code (modulo_width bits to) place (move_rule rules) answer
 
 -- ---- where the trampoline stands
 
@@ -49,6 +62,12 @@ abbrev pub IsViewOver : Bits → ℕ → List ℕ → List ℕ → StartTarget �
 IsViewOver bits ip code entries start d view =
     IsView (code_bytes bits ip code) entries (part_of d.taken d.starts (rule_of start)) view
 
+-- a moved call that hands on an address in the trampoline is a cause, unless that is allowed
+abbrev pub call_refusal : Bool → Option ℕ → Option RuleError
+call_refusal true call = None
+call_refusal false None = None
+call_refusal false (Some at) = Some (Calls at)
+
 -- an entry within the overwritten bytes is entered: it has its own offset twice
 abbrev pub inside_refusal : Option ℕ → Option RuleError
 inside_refusal None = None
@@ -64,10 +83,11 @@ abbrev pub sight_refusal : Bool → Sight → Option RuleError
 sight_refusal whole Whole = None
 sight_refusal whole (Ends at why) = if whole then Some (Unseen at why) else None
 
--- the first cause against a detour in what is seen: an entry, a passage, the end of sight
-abbrev pub view_refusal : Bool → View → Option RuleError
-view_refusal whole view =
-    option_or (inside_refusal view.inside) (option_or (entered_refusal view.entered) (sight_refusal whole view.sight))
+-- the first cause against a detour: a call in it, an entry, a passage, the end of sight
+abbrev pub refusal_of : HookRules → DetourState → View → Option RuleError
+refusal_of rules d view =
+    option_or (call_refusal rules.calls d.call)
+    (option_or (inside_refusal view.inside) (option_or (entered_refusal view.entered) (sight_refusal rules.whole view.sight)))
 
 -- the detour with what was seen, unless there is a cause against it
 abbrev pub judged_by : Option RuleError → DetourState → View → Result SeenDetour RuleError
@@ -76,52 +96,43 @@ judged_by (Some why) d view = Err why
 
 -- ---- the answer
 
--- a detour is allowed: its trampoline stands apart from the code, no entry and no passage into the overwritten bytes is
--- seen, and all is seen if that was asked for
-pub record IsAllowed (bits : Bits) (ip : ℕ) (code : List ℕ) (place : ℕ) (start : StartTarget) (entries : List ℕ)
-    (whole : Bool) (d : DetourState) (view : View) : Type 0 where
+-- a detour is allowed: its trampoline stands apart from the code, no entry and no passage into the overwritten bytes is seen, all is seen if that was
+-- asked for, and no call in it hands on an address of the trampoline unless it may
+pub record IsAllowed (bits : Bits) (ip : ℕ) (code : List ℕ) (place : ℕ) (entries : List ℕ) (rules : HookRules) (d : DetourState) (view : View) : Type 0 where
   pub apart : lies_in bits ip code place d ≡ false
-  pub is_view : IsViewOver bits ip code entries start d view
+  pub is_view : IsViewOver bits ip code entries rules.start d view
+  pub call : rules.calls ≡ false → d.call ≡ None
   pub inside : view.inside ≡ None
   pub entered : view.entered ≡ None
-  pub sight : IsTrue whole → view.sight ≡ Whole
+  pub sight : IsTrue rules.whole → view.sight ≡ Whole
 
--- a detour whose trampoline stands apart from the code is refused for what is seen
-pub record IsRefused (bits : Bits) (ip : ℕ) (code : List ℕ) (place : ℕ) (start : StartTarget) (entries : List ℕ)
-    (whole : Bool) (d : DetourState) (why : RuleError) : Type 0 where
+-- a detour whose trampoline stands apart from the code is refused for a call in it, or for what is seen
+pub record IsRefused (bits : Bits) (ip : ℕ) (code : List ℕ) (place : ℕ) (entries : List ℕ) (rules : HookRules) (d : DetourState) (why : RuleError) : Type 0 where
   pub apart : lies_in bits ip code place d ≡ false
   pub view : View
-  pub is_view : IsViewOver bits ip code entries start d view
-  pub cause : view_refusal whole view ≡ Some why
+  pub is_view : IsViewOver bits ip code entries rules.start d view
+  pub cause : refusal_of rules d view ≡ Some why
 
 -- what the rules say of a detour
-abbrev pub IsRuled : Bits → ℕ → List ℕ → ℕ → StartTarget → List ℕ → Bool → DetourState → Result SeenDetour RuleError
-    → Type 0
-IsRuled bits ip code place start entries whole d (Ok seen) =
-    (seen.detour ≡ d) × IsAllowed bits ip code place start entries whole d seen.view
-IsRuled bits ip code place start entries whole d (Err (Detour why)) = why ≡ detour_error.Memory
-IsRuled bits ip code place start entries whole d (Err Overlaps) = lies_in bits ip code place d ≡ true
-IsRuled bits ip code place start entries whole d (Err (Entered from target)) =
-    IsRefused bits ip code place start entries whole d (Entered from target)
-IsRuled bits ip code place start entries whole d (Err (Unseen at why)) =
-    IsRefused bits ip code place start entries whole d (Unseen at why)
+abbrev pub IsRuled : Bits → ℕ → List ℕ → ℕ → List ℕ → HookRules → DetourState → Result SeenDetour RuleError → Type 0
+IsRuled bits ip code place entries rules d (Ok seen) =
+    (seen.detour ≡ d) × IsAllowed bits ip code place entries rules d seen.view
+IsRuled bits ip code place entries rules d (Err (Detour why)) = why ≡ detour_error.Memory
+IsRuled bits ip code place entries rules d (Err Overlaps) = lies_in bits ip code place d ≡ true
+IsRuled bits ip code place entries rules d (Err (Calls at)) = IsRefused bits ip code place entries rules d (Calls at)
+IsRuled bits ip code place entries rules d (Err (Entered from target)) = IsRefused bits ip code place entries rules d (Entered from target)
+IsRuled bits ip code place entries rules d (Err (Unseen at why)) = IsRefused bits ip code place entries rules d (Unseen at why)
 
--- the answer: the detour that is allowed; or that there is none; or that there is one, which has its trampoline in the
--- code, or is refused for what is seen
-abbrev pub IsRuledAnswer : Bits → ℕ → List ℕ → ℕ → ℕ → StartTarget → List ℕ → Bool → Result SeenDetour RuleError
-    → Type 0
-IsRuledAnswer bits ip code to place start entries whole (Ok seen) =
-    IsDetourAnswer bits ip code to place start (Ok seen.detour)
-    × IsAllowed bits ip code place start entries whole seen.detour seen.view
-IsRuledAnswer bits ip code to place start entries whole (Err (Detour why)) =
-    IsDetourAnswer bits ip code to place start (Err why)
-IsRuledAnswer bits ip code to place start entries whole (Err Overlaps) =
-    (d : DetourState) × (IsDetourAnswer bits ip code to place start (Ok d) × (lies_in bits ip code place d ≡ true))
-IsRuledAnswer bits ip code to place start entries whole (Err (Entered from target)) =
-    (d : DetourState)
-    × (IsDetourAnswer bits ip code to place start (Ok d)
-    × IsRefused bits ip code place start entries whole d (Entered from target))
-IsRuledAnswer bits ip code to place start entries whole (Err (Unseen at why)) =
-    (d : DetourState)
-    × (IsDetourAnswer bits ip code to place start (Ok d)
-    × IsRefused bits ip code place start entries whole d (Unseen at why))
+-- the answer: the detour that is allowed; or that there is none; or that there is one, which has its trampoline in the code, or is refused
+abbrev pub IsRuledAnswer : Bits → ℕ → List ℕ → ℕ → ℕ → List ℕ → HookRules → Result SeenDetour RuleError → Type 0
+IsRuledAnswer bits ip code to place entries rules (Ok seen) =
+    IsMade bits ip code to place rules (Ok seen.detour) × IsAllowed bits ip code place entries rules seen.detour seen.view
+IsRuledAnswer bits ip code to place entries rules (Err (Detour why)) = IsMade bits ip code to place rules (Err why)
+IsRuledAnswer bits ip code to place entries rules (Err Overlaps) =
+    (d : DetourState) × (IsMade bits ip code to place rules (Ok d) × (lies_in bits ip code place d ≡ true))
+IsRuledAnswer bits ip code to place entries rules (Err (Calls at)) =
+    (d : DetourState) × (IsMade bits ip code to place rules (Ok d) × IsRefused bits ip code place entries rules d (Calls at))
+IsRuledAnswer bits ip code to place entries rules (Err (Entered from target)) =
+    (d : DetourState) × (IsMade bits ip code to place rules (Ok d) × IsRefused bits ip code place entries rules d (Entered from target))
+IsRuledAnswer bits ip code to place entries rules (Err (Unseen at why)) =
+    (d : DetourState) × (IsMade bits ip code to place rules (Ok d) × IsRefused bits ip code place entries rules d (Unseen at why))

@@ -1,6 +1,7 @@
 //! Detours: a jump over the first bytes of a function, and a trampoline that does what these bytes did and continues after them.
 #![tactic(auto)]
 
+mod calls;
 mod entries;
 mod error;
 pub mod hook_slots;
@@ -17,5 +18,5 @@ mod trampoline;
 pub use error::DetourError;
 pub use making::detour;
 pub use parts::{Detour, JumpForm, Parts};
-pub use rules::{RuleError, SeenDetour, detour_with};
+pub use rules::{HookRules, RuleError, SeenDetour, detour_with};
 pub use start::StartTarget;

@@ -11,6 +11,7 @@ ghost use Rattle.detour.specs.Reading.{AreCoded, IsTakenFit};
 ghost use Rattle.detour.specs.Taken.{taken_bytes};
 ghost use Rattle.detour.specs.Taken as taken_spec;
 
+use crate::calls::call_in;
 use crate::entries::first_entry;
 use crate::error::DetourError;
 use crate::jumps::{ABSOLUTE_LEN, NEAR_LEN, absolute_jump, near_jump};
@@ -251,6 +252,7 @@ fn put_together(
     to: u64,
     place: u64,
     back: bool,
+    call: Option<u32>,
     jump: &Jump,
     taken: &Taken,
     moved: &MovedBlocks,
@@ -261,7 +263,7 @@ fn put_together(
     requires back { back ≡ true → 0 < length moved.now.starts }
     requires few { length taken.now.items.items ≤ 65536 }
     requires within { taken_spec.moved_count taken.now.items.items ≤ length moved.now.starts }
-    ensures parts { IfOk result (λ d. IsPutTogether to place back jump.now taken.now moved.now d) }
+    ensures parts { IfOk result (λ d. IsPutTogether to place back call jump.now taken.now moved.now d) }
     ensures refused { IfErr result (λ why. why ≡ Memory) }
 {
     let parts = parts_of(place, back, moved, jump.relay);
@@ -279,6 +281,7 @@ fn put_together(
             patch,
             trampoline,
             moved: starts,
+            call,
         }),
         Err(_) => Err(DetourError::Memory),
     }
@@ -303,7 +306,8 @@ fn lay_detour(
     match lay_trampoline(alloc, bits, ip, taken, place, rule) {
         Ok(moved) => {
             let back = goes_back(rule, bits, taken);
-            put_together(alloc, to, place, back, jump, taken, &moved)
+            let call = call_in(rule, bits, taken);
+            put_together(alloc, to, place, back, call, jump, taken, &moved)
         }
         Err(why) => Err(move_refusal(why)),
     }

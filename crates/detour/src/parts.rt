@@ -37,6 +37,7 @@ pub struct Detour {
     pub(crate) patch: Vec<u8>,
     pub(crate) trampoline: Vec<u8>,
     pub(crate) moved: MovedStarts,
+    pub(crate) call: Option<u32>,
 }
 
 impl Model for Detour {
@@ -45,7 +46,7 @@ impl Model for Detour {
 
     ghost Value = { DetourState };
 
-    ghost view = { λ d. record { form = d.form; taken = d.taken; parts = d.parts; patch = d.patch.items; trampoline = d.trampoline.items; starts = d.moved.starts.items; places = d.moved.places.items } };
+    ghost view = { λ d. record { form = d.form; taken = d.taken; parts = d.parts; patch = d.patch.items; trampoline = d.trampoline.items; starts = d.moved.starts.items; places = d.moved.places.items; call = d.call } };
 
     ghost invariant = { λ d. ⊤ };
 }
@@ -98,6 +99,14 @@ impl Detour {
         ensures { result.now ≡ self.now.places }
     {
         &self.moved.places
+    }
+
+    /// Returns the offset in the function of the first call that is moved as it is: what it calls is handed an address in the trampoline to return to. A
+    /// call at the end that pushes its own return address is none.
+    pub fn call(&self) -> Option<u32>
+        ensures { result ≡ self.now.call }
+    {
+        self.call
     }
 
     /// Returns the offset in the trampoline of the moved instruction that begins at the offset `start` of the function, if one begins there. So an

@@ -6,9 +6,9 @@ ghost use Rattle.detour.specs.Rules.{IsViewOver, IsRuled, IsRuledAnswer};
 ghost use Rattle.detour.specs.declared.rules.RuleError.TheVariants as error;
 
 use crate::error::DetourError;
-use crate::making::detour;
+use crate::making::detour_under;
 use crate::parts::Detour;
-use crate::start::StartTarget;
+use crate::start::{MoveRule, StartTarget};
 use flow_graph::FlowError;
 use hook_sight::{Passage, Sight, SightEnd, StartRule, View, look};
 use plain_spelling::numbers::distance;
@@ -27,6 +27,9 @@ pub enum RuleError {
     /// The trampoline would lie in the given bytes of the function.
     #[error("the trampoline would lie in the code of the function")]
     Overlaps,
+    /// The moved instruction that begins at this offset calls, and what it calls would get an address in the trampoline to return to.
+    #[error("the call at offset {at:#x} would be made from the trampoline")]
+    Calls { at: u32 },
     /// Control may go from the first offset to the second one, which would be overwritten. For an entry both are its own offset.
     #[error("control may come from offset {from:#x} to offset {target:#x}, which would be written over")]
     Entered { from: usize, target: usize },
@@ -41,6 +44,20 @@ impl From<DetourError> for RuleError {
     fn from(why: DetourError) -> RuleError {
         RuleError::Detour(why)
     }
+}
+
+/// What is asked of a detour.
+#[derive(Clone, Copy, PartialEq, Eq, Debug)]
+pub struct HookRules {
+    /// Where a moved branch goes whose target is the function's own first byte.
+    pub start: StartTarget,
+    /// Whether there is no detour where sight ends anywhere, since what is not seen may enter too.
+    pub whole: bool,
+    /// Whether a near CALL that is the last moved instruction pushes the address behind it in the function, and jumps: the called code sees the return
+    /// address that it always saw, and returns into the function. With shadow stacks (CET) a RET to an address that no CALL pushed faults.
+    pub returns: bool,
+    /// Whether a moved call may hand an address in the trampoline to what it calls.
+    pub calls: bool,
 }
 
 /// A detour, and what was seen of the function.
@@ -103,6 +120,19 @@ fn view_over(
     look(alloc, bits, ip, code, entries, taken, starts, rule)
 }
 
+/// The cause that a moved call is against a detour, unless it is allowed.
+fn call_refusal(allowed: bool, call: Option<u32>) -> Option<RuleError>
+    ensures { result ≡ spec.call_refusal allowed call }
+{
+    if allowed {
+        return None;
+    }
+    match call {
+        None => None,
+        Some(at) => Some(RuleError::Calls { at }),
+    }
+}
+
 /// The cause that an entry is against a detour, if there is one within the overwritten bytes.
 fn inside_refusal(inside: Option<usize>) -> Option<RuleError>
     ensures { result ≡ spec.inside_refusal inside }
@@ -138,19 +168,19 @@ fn sight_refusal(whole: bool, sight: Sight) -> Option<RuleError>
     }
 }
 
-/// The first cause against a detour in what is seen.
-fn view_refusal(whole: bool, view: &View) -> Option<RuleError>
-    ensures { result ≡ spec.view_refusal whole view.now }
+/// The first cause against a detour.
+fn refusal_of(rules: HookRules, made: &Detour, view: &View) -> Option<RuleError>
+    ensures { result ≡ spec.refusal_of rules made.now view.now }
 {
-    inside_refusal(view.inside)
-        .or(entered_refusal(view.entered).or(sight_refusal(whole, view.sight)))
+    call_refusal(rules.calls, made.call()).or(inside_refusal(view.inside)
+        .or(entered_refusal(view.entered).or(sight_refusal(rules.whole, view.sight))))
 }
 
 /// The detour with what was seen, unless there is a cause against it.
-fn judged(whole: bool, made: Detour, view: View) -> Result<SeenDetour, RuleError>
-    ensures { result ≡ spec.judged_by (spec.view_refusal whole view) made view }
+fn judged(rules: HookRules, made: Detour, view: View) -> Result<SeenDetour, RuleError>
+    ensures { result ≡ spec.judged_by (spec.refusal_of rules made view) made view }
 {
-    match view_refusal(whole, &view) {
+    match refusal_of(rules, &made, &view) {
         None => Ok(SeenDetour { detour: made, view }),
         Some(why) => Err(why),
     }
@@ -163,41 +193,44 @@ fn ruled(
     ip: u64,
     code: &[u8],
     place: u64,
-    start: StartTarget,
     entries: &[u32],
-    whole: bool,
+    rules: HookRules,
     made: Detour,
 ) -> Result<SeenDetour, RuleError>
     requires { length code.now ≤ 1048576 }
-    ensures { IsRuled bits ip code.now place start entries.now whole made result }
+    ensures { IsRuled bits ip code.now place entries.now rules made result }
 {
     if lies_in(bits, ip, code, place, &made) {
         return Err(RuleError::Overlaps);
     }
-    match view_over(alloc, bits, ip, code, entries, &made, start) {
-        Ok(view) => judged(whole, made, view),
+    match view_over(alloc, bits, ip, code, entries, &made, rules.start) {
+        Ok(view) => judged(rules, made, view),
         Err(FlowError::Memory) => Err(RuleError::Detour(DetourError::Memory)),
     }
 }
 
-/// Makes a detour as [`detour`](crate::detour) does, unless the trampoline would lie in the code, or control may enter what is overwritten: from
-/// anything that is reached from the first byte or from an entry. It returns the detour with what was seen of the function.
+/// Makes a detour under rules: the trampoline lies apart from the code, nothing that is seen of the function enters what is overwritten, and moved
+/// instructions do what they did where they stood. Returns it with what was seen.
 ///
 /// `code` is the function, at most 1,048,576 bytes from its first byte on, whose address is `ip`. `to` is the address of the replacement, and `place`
-/// that of the trampoline. `entries` are further offsets at which the function begins, as for [`look`](hook_sight::look): targets of jump tables,
-/// landing pads, parts that a compiler moved away. With `whole`, the detour is refused if sight ends anywhere, since what is not seen may enter too;
-/// without it, the view says where sight ends, and the first suspect.
+/// that of the trampoline. The jump, what it overwrites and the trampoline are those of [`detour`](crate::detour), with two differences. An address at
+/// RIP or EIP stays the same even if it lies in the overwritten bytes: it may be the base of data, or be compared with a return address. If
+/// `rules.returns` asks for it, a near CALL that is the last moved instruction pushes its own return address and jumps, if it can
+/// ([`pushed_call`](pushed_calls::pushed_call) says when); then nothing jumps back.
 ///
-/// If targets at the start are moved (`StartTarget::Moved`), a loop from behind the overwritten bytes to the start is refused as well: it would run
+/// Control is followed from the first byte and from `entries`: further offsets at which the function begins, as for [`look`](hook_sight::look), such as
+/// targets of jump tables, landing pads, parts that a compiler moved away. Without `rules.whole`, the view says where sight ends, and the first suspect.
+/// If targets at the start are moved (`StartTarget::Moved`), a loop from behind the overwritten bytes to the start is an entry as well: it would run
 /// into the patch. Calls of the start are recursion, and reach the replacement.
 ///
 /// Errors, in this order:
 ///
 /// - `Detour`: there is no detour, for its cause.
 /// - `Overlaps`: an address of the trampoline is one of the given bytes. Both ranges wrap at the address size of the mode.
+/// - `Calls`: a moved call hands on an address in the trampoline, and `rules.calls` does not allow it.
 /// - `Entered`: the least entry within the overwritten bytes after the first of them, with its offset twice; else the first offset from which
 ///   control goes into them, and where.
-/// - `Unseen`: whole sight was asked for, and sight ends at this offset.
+/// - `Unseen`: `rules.whole` asks for whole sight, and sight ends at this offset.
 ///
 /// `Detour(DetourError::Memory)` can replace any of them.
 pub fn detour_with(
@@ -207,15 +240,19 @@ pub fn detour_with(
     code: &[u8],
     to: u64,
     place: u64,
-    start: StartTarget,
     entries: &[u32],
-    whole: bool,
+    rules: HookRules,
 ) -> Result<SeenDetour, RuleError>
     requires { length code.now ≤ 1048576 }
-    ensures { IsRuledAnswer bits ip code.now to place start entries.now whole result }
+    ensures { IsRuledAnswer bits ip code.now to place entries.now rules result }
 {
-    match detour(alloc, bits, ip, code, to, place, start) {
-        Ok(made) => ruled(alloc, bits, ip, code, place, start, entries, whole, made),
+    let rule = MoveRule {
+        start: rules.start,
+        rip_stays: true,
+        returns: rules.returns,
+    };
+    match detour_under(alloc, bits, ip, code, to, place, rule) {
+        Ok(made) => ruled(alloc, bits, ip, code, place, entries, rules, made),
         Err(why) => Err(RuleError::Detour(why)),
     }
 }

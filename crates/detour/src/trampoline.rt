@@ -27,7 +27,7 @@ use x86_values::{Bits, Instr, wrap};
 
 /// Returns what does a call that is the last taken instruction, if the rule asks for that and control continues after all of them.
 #[tactic(auto, unfolding(crate::specs::Trampoline::pushed_last))]
-fn pushed_last(rule: MoveRule, bits: Bits, taken: &Taken) -> Option<PushedCall>
+pub(crate) fn pushed_last(rule: MoveRule, bits: Bits, taken: &Taken) -> Option<PushedCall>
     requires { IsTakenFit bits taken.now }
     ensures value { items_if result ≡ spec.pushed_last rule bits taken.now.items.items }
     ensures placed { IfSome result (λ call. ArePlaced bits (items_in call)) }
