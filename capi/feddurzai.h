@@ -44,7 +44,7 @@ extern "C" {
 /* ---- versions ---------------------------------------------------------------------------------------------- */
 
 /* The interface that this header declares. It rises when a struct, a number or a function changes. */
-#define FEDDURZAI_INTERFACE 6
+#define FEDDURZAI_INTERFACE 7
 
 /*
  * Returns the interface of the linked library. If it is not FEDDURZAI_INTERFACE, the library does not match this

@@ -7,7 +7,7 @@ import os
 from typing import Callable, List, Tuple, Type
 
 # the interface of the header for which this package is written
-INTERFACE = 6
+INTERFACE = 7
 
 MAX_LEN = 15
 MAX_JUMP = 16

@@ -2,6 +2,7 @@ pub mod ThereAndBack
 pub mod FewUses
 pub mod FewReached
 pub mod PutKinds
+pub mod PutStarts
 pub mod ItemsInOrder
 pub mod MovedEntries
 pub mod ItemStructs
