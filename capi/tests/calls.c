@@ -1432,7 +1432,9 @@ static void check_ruled_detours(void)
     static const uint8_t small[] = {0x48, 0x83, 0xec, 0x18, 0x31, 0xc0, 0xc3};
     static const uint8_t patch_of_unread[] = {0xe9, 0xfb, 0x0f, 0x00, 0x00, 0xcc};
     static const uint8_t trampoline_of_unread[] = {0x48, 0x8b, 0x07, 0x48, 0x89, 0xc1, 0xe9, 0xfb, 0xdf, 0xff, 0xff};
-    static const uint8_t trampoline_of_loop[] = {0x80, 0x3f, 0x00, 0x0f, 0x84, 0x01, 0xe0, 0xff, 0xff, 0xe9, 0xf7, 0xdf, 0xff, 0xff};
+    /* je to the end; mov rcx, rax; two nops; ret: in the trampoline the branch has 6 bytes */
+    static const uint8_t longer[] = {0x74, 0x05, 0x48, 0x89, 0xc1, 0x90, 0x90, 0xc3};
+    static const uint8_t trampoline_of_longer[] = {0x0f, 0x84, 0x01, 0xe0, 0xff, 0xff, 0x48, 0x89, 0xc1, 0xe9, 0xf7, 0xdf, 0xff, 0xff};
     static const uint32_t at_10[] = {10}, at_4[] = {9, 4, 5}, outside[] = {0, 6, 7, UINT32_MAX};
     uint8_t *patch = malloc(FEDDURZAI_MAX_PATCH), *out = malloc(64), *large = calloc(1, FEDDURZAI_MAX_CODE + 1);
     feddurzai_moved_start *moved = malloc(4 * sizeof *moved);
@@ -1510,12 +1512,15 @@ static void check_ruled_detours(void)
     CHECK(feddurzai_detour(64, 0x1000, unread, sizeof unread, 0x2000, 0x3000, 0, patch, FEDDURZAI_MAX_PATCH, out, 64, d), 0);
     CHECK(memcmp(d, &r->detour, offsetof(feddurzai_detour_report, form) + 1), 0);
 
-    /* the branch is 4 bytes longer in the trampoline, so a second moved instruction behind it would be 4 bytes on */
+    /* the way back to the start is allowed where the start is to be hooked */
     CHECK(DETOUR(loop, FEDDURZAI_START_HOOKED, 1, NULL, 0), 0);
-    CHECK(r->detour.bytes == 14 && r->detour.jump_back == 9, 1);
-    CHECK(memcmp(out, trampoline_of_loop, 14), 0);
-    CHECK(r->moved == 2 && moved[1].start == 3 && moved[1].place == 3, 1);
+    CHECK(r->detour.taken == 5 && r->moved == 2 && moved[1].start == 3 && moved[1].place == 3, 1);
     CHECK(r->view.sight, FEDDURZAI_SIGHT_WHOLE);
+    CHECK(DETOUR(longer, FEDDURZAI_START_MOVED, 1, NULL, 0), 0);
+    CHECK(r->detour.bytes == 14 && r->detour.jump_back == 9, 1);
+    CHECK(memcmp(out, trampoline_of_longer, 14), 0);
+    CHECK(r->moved == 2 && moved[0].start == 0 && moved[0].place == 0, 1);
+    CHECK(moved[1].start == 2 && moved[1].place == 6, 1);
 
     /* a buffer is too small: nothing is written, and the report has what there is */
     for (room = 0; room < 3; room++) {

@@ -24,4 +24,5 @@ pub mod ShortTexts
 pub mod ShortWords
 pub mod ShortJumps
 pub mod ShortPatches
+pub mod MovedPairs
 pub mod RegionUnits
