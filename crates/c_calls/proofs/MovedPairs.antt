@@ -3,6 +3,7 @@ use Rattle.std.proofs.Common.{◌≡◌, ◌∙◌, ℕ, Bool, List, length, Opt
 use Rattle.std.specs.Prelude.{IfOk, Result, Ok, Err}
 use Rattle.std.proofs.lemmas.List.FromFn.{length-map-range_with_len}
 use Rattle.x86_values.specs.declared.Bits.{Bits}
+use Rattle.x86_values.specs.Wrapping.{modulo_width}
 use Rattle.move_goals.specs.declared.items.Placed.{Placed}
 use Rattle.block_encoder.specs.Moved.{MovedLists}
 use Rattle.detour.specs.declared.start.StartTarget.{StartTarget}
@@ -33,4 +34,4 @@ moved-pairs bits start ip code to place entries whole (Err e) h = tt
 moved-pairs None start ip code to place entries whole (Ok seen) h = absurd cc
 moved-pairs (Some bits) None ip code to place entries whole (Ok seen) h = absurd cc
 moved-pairs (Some bits) (Some start) ip code to place entries whole (Ok seen) (few, is) =
-    detour-pairs bits ip code _ place start seen.detour is.detour
+    detour-pairs bits ip code (modulo_width bits to) place start seen.detour is.0

@@ -13,7 +13,7 @@ use crate::hooks::{
 use crate::numbers::bits_numbered;
 use crate::refusal::{Refusal, refusal_status};
 use crate::sight::{end_number, flat_view};
-use detour::rules::{RuleError, SeenDetour, detour_with};
+use detour::{RuleError, SeenDetour, detour_with};
 use std::alloc::Global;
 
 /// Why no detour is made.
