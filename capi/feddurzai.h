@@ -23,9 +23,9 @@
  * Threads: the library has no global state and takes no locks, so any number of threads may call it at once.
  *
  * Memory: feddurzai_move, feddurzai_move_outside, feddurzai_move_blocks, feddurzai_step, feddurzai_step_call,
- * feddurzai_flow, feddurzai_flow_from, feddurzai_flow_unlisted, feddurzai_detour and feddurzai_look call malloc, realloc
- * and free, and free all that they allocate before they return. All other functions allocate nothing and may be called
- * from a signal handler or from a hook of malloc.
+ * feddurzai_flow, feddurzai_flow_from, feddurzai_flow_unlisted, feddurzai_detour, feddurzai_look and
+ * feddurzai_detour_with call malloc, realloc and free, and free all that they allocate before they return. All other
+ * functions allocate nothing and may be called from a signal handler or from a hook of malloc.
  *
  * The header is C99 and C++. Numbers are in the machine's byte order. Lengths and sizes are in bytes. "SDM" is the
  * Intel 64 and IA-32 Architectures Software Developer's Manual; sections are of its volume 2 if no volume is named. The
@@ -44,7 +44,7 @@ extern "C" {
 /* ---- versions ---------------------------------------------------------------------------------------------- */
 
 /* The interface that this header declares. It rises when a struct, a number or a function changes. */
-#define FEDDURZAI_INTERFACE 6
+#define FEDDURZAI_INTERFACE 7
 
 /*
  * Returns the interface of the linked library. If it is not FEDDURZAI_INTERFACE, the library does not match this
@@ -64,8 +64,8 @@ uint32_t feddurzai_version(void);
  * Statuses. A function that returns int32_t returns 0 or more on success and one of these on refusal.
  *
  * After a refusal the function has written nothing, with one exception: feddurzai_move, feddurzai_move_outside,
- * feddurzai_move_blocks, feddurzai_step, feddurzai_step_call, feddurzai_step_unlisted and feddurzai_detour always write
- * their report, unless they return FEDDURZAI_NULL.
+ * feddurzai_move_blocks, feddurzai_step, feddurzai_step_call, feddurzai_step_unlisted, feddurzai_detour and
+ * feddurzai_detour_with always write their report, unless they return FEDDURZAI_NULL.
  *
  * If several refusals apply, the function returns the first in the order of its comment. FEDDURZAI_NULL precedes all
  * others. Every function that takes a pointer can return it, so the comments do not repeat it.
@@ -92,13 +92,16 @@ enum {
     FEDDURZAI_BAD_START = -19,      /* start is not one of the two numbers that the function takes */
     FEDDURZAI_SMALL = -20,          /* the function is shorter than the jump */
     FEDDURZAI_ENDS = -21,           /* control ends within the overwritten bytes, and other code follows there */
-    FEDDURZAI_ENTERED = -22,        /* control may enter the overwritten bytes after the first one */
+    FEDDURZAI_ENTERED = -22,        /* control may enter the overwritten bytes after the first one;
+                                       feddurzai_detour_with: or go back to the first one in mid-function */
     FEDDURZAI_BAD_BLOCK = -23,      /* a block is not inside the given bytes */
     FEDDURZAI_BAD_REGION = -24,     /* the numbers describe no region, or its blocks are unordered, outside it, or not in
                                        units of 16 bytes */
     FEDDURZAI_EMPTY = -25,          /* 0 bytes were requested */
     FEDDURZAI_FULL = -26,           /* no gap of the region is long enough */
-    FEDDURZAI_NOT_LIVE = -27        /* no live block starts at this address */
+    FEDDURZAI_NOT_LIVE = -27,       /* no live block starts at this address */
+    FEDDURZAI_UNSEEN = -28,         /* control cannot be followed through the whole function */
+    FEDDURZAI_OVERLAPS = -29        /* the trampoline would lie in the bytes of the function */
     /* -256 and below: the instruction has no encoding, see FEDDURZAI_CAUSE */
 };
 
@@ -1471,6 +1474,53 @@ typedef struct feddurzai_view {
 int32_t feddurzai_look(uint32_t bits, uint64_t ip, const uint8_t *code, size_t len, const uint32_t *entries,
     size_t entry_count, uint64_t taken, const uint32_t *moved, size_t moved_count, uint32_t start, feddurzai_view *view);
 
+/* A moved instruction of a detour. */
+typedef struct feddurzai_moved_start {
+    uint64_t start;         /* the offset at which it begins in the function */
+    uint64_t place;         /* the offset at which its image begins in the trampoline */
+} feddurzai_moved_start;
+
+/* What feddurzai_detour_with reports. */
+typedef struct feddurzai_hook_report {
+    feddurzai_detour_report detour;     /* as of feddurzai_detour; _UNSEEN: `at` is the offset at which sight ends, and
+                                           `target` is why, FEDDURZAI_SIGHT_NOT_READ ..; _OVERLAPS: both are 0 */
+    feddurzai_view view;                /* what is seen of the function; all 0 after a refusal */
+    uint64_t moved;                     /* the number of moved instructions; 0 after a refusal */
+} feddurzai_hook_report;
+
+/*
+ * Makes the hook that feddurzai_detour makes, looks at the function as feddurzai_look does, and refuses the hook if
+ * control is seen to enter the overwritten bytes. docs/hooks.md says what the rules are.
+ *
+ *  - bits, ip, code, len, to, place, start: as in feddurzai_detour.
+ *  - whole: 0, or any other number to refuse a function of which not everything is seen (_UNSEEN).
+ *  - entries, entry_count: further offsets at which control comes in, as in feddurzai_look.
+ *  - patch, patch_room and trampoline, trampoline_room: as in feddurzai_detour.
+ *  - moved, moved_room: receive the moved instructions, in order. There are at most as many as the patch has bytes.
+ *  - report: receives the report. If a buffer is too small, it has the sizes, the view and the number of moved
+ *    instructions all the same; after any other refusal it has the numbers of that refusal.
+ *
+ * Refused are a trampoline that would lie in the bytes of the function; an entry within the overwritten bytes after the
+ * first one; and a way into them that feddurzai_look reports: from behind them, after the first byte, or from a moved
+ * instruction to where none begins. With FEDDURZAI_START_MOVED a way from behind them to the start is refused too,
+ * unless it is a call, since it would reach the replacement in mid-function.
+ *
+ * Returns 0, or the refusals of feddurzai_detour before _NO_ROOM; then _OVERLAPS, _ENTERED, _UNSEEN, _NO_ROOM.
+ * _ENTERED reports an entry within as both offsets. _NO_MEMORY may replace any of those after _TOO_LARGE. The call
+ * allocates memory.
+ *
+ *     // mov rax, [rdi]; mov rcx, rax; an instruction that the table does not have; jmp to the second one; ret
+ *     static const uint8_t partly_seen[] = {0x48, 0x8b, 0x07, 0x48, 0x89, 0xc1, 0x62, 0xf1, 0x7c, 0x48, 0x28, 0xc1,
+ *         0xeb, 0xf5, 0xc3};
+ *     said = feddurzai_detour_with(64, 0x1000, partly_seen, sizeof partly_seen, 0x2000, 0x3000, FEDDURZAI_START_MOVED,
+ *         1, NULL, 0, patch, sizeof patch, trampoline, sizeof trampoline, moved, 2, &hook);
+ *     // said is FEDDURZAI_UNSEEN, and hook.detour.at is 6. Without whole sight it is 0, and moved[1] has 3 and 3
+ */
+int32_t feddurzai_detour_with(uint32_t bits, uint64_t ip, const uint8_t *code, size_t len, uint64_t to, uint64_t place,
+    uint32_t start, uint32_t whole, const uint32_t *entries, size_t entry_count, uint8_t *patch, size_t patch_room,
+    uint8_t *trampoline, size_t trampoline_room, feddurzai_moved_start *moved, size_t moved_room,
+    feddurzai_hook_report *report);
+
 /* ---- null pointers ----------------------------------------------------------------------------------------- */
 
 /*
@@ -1784,6 +1834,19 @@ static inline int32_t feddurzai_checked_look(uint32_t bits, uint64_t ip, const u
     return feddurzai_look(bits, ip, code, len, entries, entry_count, taken, moved, moved_count, start, view);
 }
 
+static inline int32_t feddurzai_checked_detour_with(uint32_t bits, uint64_t ip, const uint8_t *code, size_t len,
+    uint64_t to, uint64_t place, uint32_t start, uint32_t whole, const uint32_t *entries, size_t entry_count,
+    uint8_t *patch, size_t patch_room, uint8_t *trampoline, size_t trampoline_room, feddurzai_moved_start *moved,
+    size_t moved_room, feddurzai_hook_report *report)
+{
+    if (feddurzai_is_null(code, len) || feddurzai_is_null(entries, entry_count) || feddurzai_is_null(patch, patch_room))
+        return FEDDURZAI_NULL;
+    if (feddurzai_is_null(trampoline, trampoline_room) || feddurzai_is_null(moved, moved_room) || report == NULL)
+        return FEDDURZAI_NULL;
+    return feddurzai_detour_with(bits, ip, code, len, to, place, start, whole, entries, entry_count, patch, patch_room,
+        trampoline, trampoline_room, moved, moved_room, report);
+}
+
 #define feddurzai_decode feddurzai_checked_decode
 #define feddurzai_decode_many feddurzai_checked_decode_many
 #define feddurzai_offsets feddurzai_checked_offsets
@@ -1820,6 +1883,7 @@ static inline int32_t feddurzai_checked_look(uint32_t bits, uint64_t ip, const u
 #define feddurzai_flow_unlisted feddurzai_checked_flow_unlisted
 #define feddurzai_detour feddurzai_checked_detour
 #define feddurzai_look feddurzai_checked_look
+#define feddurzai_detour_with feddurzai_checked_detour_with
 
 #ifdef __cplusplus
 }

@@ -108,6 +108,11 @@ static void check_layout(void)
     CHECK(offsetof(feddurzai_detour_report, at), 40);
     CHECK(offsetof(feddurzai_detour_report, target), 48);
     CHECK(offsetof(feddurzai_detour_report, form), 56);
+    CHECK(sizeof(feddurzai_moved_start), 16);
+    CHECK(offsetof(feddurzai_moved_start, place), 8);
+    CHECK(sizeof(feddurzai_hook_report), 128);
+    CHECK(offsetof(feddurzai_hook_report, view), 64);
+    CHECK(offsetof(feddurzai_hook_report, moved), 120);
 }
 
 /* what the crate puts into each field stands where the header says */
@@ -1414,6 +1419,132 @@ static void check_detours(void)
     free(r);
 }
 
+/* each refusal of a detour by rules with its numbers, what is seen, and where the moved instructions lie */
+static void check_ruled_detours(void)
+{
+    /* mov rax, [rdi]; mov rcx, rax; vsubps zmm0, zmm0, zmm1, which has no row; jmp to the second one; ret */
+    static const uint8_t unread[] = {0x48, 0x8b, 0x07, 0x48, 0x89, 0xc1, 0x62, 0xf1, 0x7c, 0x48, 0x28, 0xc1, 0xeb, 0xf5, 0xc3};
+    /* mov rax, [rdi]; jmp [8*rax+0x2000]; inc rdi; jmp to the first jump; ret */
+    static const uint8_t by_table[] = {0x48, 0x8b, 0x07, 0xff, 0x24, 0xc5, 0x00, 0x20, 0x00, 0x00, 0x48, 0xff, 0xc7, 0xeb, 0xf4, 0xc3};
+    /* cmp byte [rdi], 0; je to the end; inc rdi; jmp to the start; ret */
+    static const uint8_t loop[] = {0x80, 0x3f, 0x00, 0x74, 0x05, 0x48, 0xff, 0xc7, 0xeb, 0xf6, 0xc3};
+    /* sub rsp, 0x18; xor eax, eax; ret */
+    static const uint8_t small[] = {0x48, 0x83, 0xec, 0x18, 0x31, 0xc0, 0xc3};
+    static const uint8_t patch_of_unread[] = {0xe9, 0xfb, 0x0f, 0x00, 0x00, 0xcc};
+    static const uint8_t trampoline_of_unread[] = {0x48, 0x8b, 0x07, 0x48, 0x89, 0xc1, 0xe9, 0xfb, 0xdf, 0xff, 0xff};
+    /* je to the end; mov rcx, rax; two nops; ret: in the trampoline the branch has 6 bytes */
+    static const uint8_t longer[] = {0x74, 0x05, 0x48, 0x89, 0xc1, 0x90, 0x90, 0xc3};
+    static const uint8_t trampoline_of_longer[] = {0x0f, 0x84, 0x01, 0xe0, 0xff, 0xff, 0x48, 0x89, 0xc1, 0xe9, 0xf7, 0xdf, 0xff, 0xff};
+    static const uint32_t at_10[] = {10}, at_4[] = {9, 4, 5}, outside[] = {0, 6, 7, UINT32_MAX};
+    uint8_t *patch = malloc(FEDDURZAI_MAX_PATCH), *out = malloc(64), *large = calloc(1, FEDDURZAI_MAX_CODE + 1);
+    feddurzai_moved_start *moved = malloc(4 * sizeof *moved);
+    feddurzai_hook_report *r = malloc(sizeof *r);
+    feddurzai_detour_report *d = malloc(sizeof *d);
+    static const feddurzai_view nothing;
+    size_t room;
+#define DETOUR_AT(place, code, start, whole, entries, count) \
+    feddurzai_detour_with(64, 0x1000, code, sizeof code, 0x2000, place, start, whole, entries, count, patch, FEDDURZAI_MAX_PATCH, \
+        out, 64, moved, 4, r)
+#define DETOUR(code, start, whole, entries, count) DETOUR_AT(0x3000, code, start, whole, entries, count)
+#define NOTHING_IS_SEEN() (memcmp(&r->view, &nothing, offsetof(feddurzai_view, has_suspect) + 1) == 0 && r->moved == 0)
+    memset(patch, 0xaa, FEDDURZAI_MAX_PATCH);
+    memset(out, 0xaa, 64);
+    memset(moved, 0xaa, 4 * sizeof *moved);
+    memset(r, 0xaa, sizeof *r);
+    CHECK(feddurzai_detour_with(17, 0, small, 7, 0, 0, 9, 0, NULL, 0, patch, 28, out, 64, moved, 4, r), FEDDURZAI_BAD_MODE);
+    CHECK(NOTHING_IS_SEEN(), 1);
+    CHECK(DETOUR(small, 2, 0, NULL, 0), FEDDURZAI_BAD_START);
+    CHECK(feddurzai_detour_with(64, 0, large, FEDDURZAI_MAX_CODE + 1, 0, 0, 0, 0, NULL, 0, NULL, 0, NULL, 0, NULL, 0, r),
+        FEDDURZAI_TOO_LARGE);
+    CHECK(feddurzai_detour_with(64, 0, small, 4, 0, 0, 0, 1, NULL, 0, patch, 28, out, 64, moved, 4, r), FEDDURZAI_SMALL);
+    CHECK(r->detour.at == 4 && r->detour.target == 5, 1);
+
+    /* sight ends at 6: refused only if all is to be seen */
+    CHECK(DETOUR(unread, FEDDURZAI_START_MOVED, 1, NULL, 0), FEDDURZAI_UNSEEN);
+    CHECK(r->detour.at == 6 && r->detour.target == FEDDURZAI_SIGHT_NOT_READ, 1);
+    CHECK(r->detour.taken | r->detour.bytes | r->detour.form, 0);
+    CHECK(NOTHING_IS_SEEN(), 1);
+    CHECK(DETOUR(unread, FEDDURZAI_START_MOVED, UINT32_MAX, NULL, 0), FEDDURZAI_UNSEEN);
+    CHECK(DETOUR(by_table, FEDDURZAI_START_MOVED, 1, NULL, 0), FEDDURZAI_UNSEEN);
+    CHECK(r->detour.at == 3 && r->detour.target == FEDDURZAI_SIGHT_INDIRECT_JUMP, 1);
+    /* the same with a case of the table known: it goes back to the jump */
+    CHECK(DETOUR(by_table, FEDDURZAI_START_MOVED, 1, at_10, 1), FEDDURZAI_ENTERED);
+    CHECK(r->detour.at == 13 && r->detour.target == 3, 1);
+    CHECK(DETOUR(by_table, FEDDURZAI_START_MOVED, 0, at_10, 1), FEDDURZAI_ENTERED);
+    CHECK(r->detour.at == 13 && r->detour.target == 3, 1);
+    CHECK(DETOUR(by_table, FEDDURZAI_START_HOOKED, 0, at_10, 1), FEDDURZAI_ENTERED);
+    /* a way back to the start */
+    CHECK(DETOUR(loop, FEDDURZAI_START_MOVED, 0, NULL, 0), FEDDURZAI_ENTERED);
+    CHECK(r->detour.at == 8 && r->detour.target == 0, 1);
+    /* the least entry within */
+    CHECK(DETOUR(small, FEDDURZAI_START_MOVED, 0, at_4, 3), FEDDURZAI_ENTERED);
+    CHECK(r->detour.at == 4 && r->detour.target == 4, 1);
+    /* a trampoline of 8 bytes on the last byte, or with its last byte on the first one, of the function */
+    CHECK(DETOUR_AT(0x1006, small, FEDDURZAI_START_MOVED, 0, NULL, 0), FEDDURZAI_OVERLAPS);
+    CHECK(r->detour.at | r->detour.target, 0);
+    CHECK(DETOUR_AT(0xff9, small, FEDDURZAI_START_MOVED, 0, NULL, 0), FEDDURZAI_OVERLAPS);
+    /* before the entry within */
+    CHECK(DETOUR_AT(0x1000, small, FEDDURZAI_START_MOVED, 1, at_4, 3), FEDDURZAI_OVERLAPS);
+    CHECK(NOTHING_IS_SEEN(), 1);
+    CHECK(is_untouched(patch, FEDDURZAI_MAX_PATCH) && is_untouched(out, 64) && is_untouched(moved, 4 * sizeof *moved), 1);
+
+    CHECK(DETOUR_AT(0x1007, small, FEDDURZAI_START_MOVED, 1, NULL, 0), 0);
+    CHECK(r->detour.bytes, 8);
+    CHECK(DETOUR_AT(0xff8, small, FEDDURZAI_START_MOVED, 1, outside, 4), 0);
+    CHECK(r->detour.bytes, 8);
+    CHECK(r->view.sight | r->view.is_entered | r->view.has_inside | r->view.has_suspect, 0);
+
+    memset(patch, 0xaa, FEDDURZAI_MAX_PATCH);
+    memset(out, 0xaa, 64);
+    memset(moved, 0xaa, 4 * sizeof *moved);
+    CHECK(DETOUR(unread, FEDDURZAI_START_MOVED, 0, NULL, 0), 0);
+    CHECK(memcmp(patch, patch_of_unread, 6), 0);
+    CHECK(memcmp(out, trampoline_of_unread, 11), 0);
+    CHECK(r->moved, 2);
+    CHECK(moved[0].start == 0 && moved[0].place == 0, 1);
+    CHECK(moved[1].start == 3 && moved[1].place == 3, 1);
+    CHECK(is_untouched(patch + 6, FEDDURZAI_MAX_PATCH - 6) && is_untouched(out + 11, 53), 1);
+    CHECK(is_untouched(moved + 2, 2 * sizeof *moved), 1);
+    CHECK(r->view.sight == FEDDURZAI_SIGHT_NOT_READ && r->view.sight_at == 6, 1);
+    CHECK(r->view.is_entered | r->view.has_inside, 0);
+    CHECK(r->view.has_suspect == 1 && r->view.suspect_from == 12 && r->view.suspect_target == 3, 1);
+    /* the same detour as without rules */
+    CHECK(feddurzai_detour(64, 0x1000, unread, sizeof unread, 0x2000, 0x3000, 0, patch, FEDDURZAI_MAX_PATCH, out, 64, d), 0);
+    CHECK(memcmp(d, &r->detour, offsetof(feddurzai_detour_report, form) + 1), 0);
+
+    /* the way back to the start is allowed where the start is to be hooked */
+    CHECK(DETOUR(loop, FEDDURZAI_START_HOOKED, 1, NULL, 0), 0);
+    CHECK(r->detour.taken == 5 && r->moved == 2 && moved[1].start == 3 && moved[1].place == 3, 1);
+    CHECK(r->view.sight, FEDDURZAI_SIGHT_WHOLE);
+    CHECK(DETOUR(longer, FEDDURZAI_START_MOVED, 1, NULL, 0), 0);
+    CHECK(r->detour.bytes == 14 && r->detour.jump_back == 9, 1);
+    CHECK(memcmp(out, trampoline_of_longer, 14), 0);
+    CHECK(r->moved == 2 && moved[0].start == 0 && moved[0].place == 0, 1);
+    CHECK(moved[1].start == 2 && moved[1].place == 6, 1);
+
+    /* a buffer is too small: nothing is written, and the report has what there is */
+    for (room = 0; room < 3; room++) {
+        memset(patch, 0xaa, FEDDURZAI_MAX_PATCH);
+        memset(out, 0xaa, 64);
+        memset(moved, 0xaa, 4 * sizeof *moved);
+        memset(r, 0xaa, sizeof *r);
+        CHECK(feddurzai_detour_with(64, 0x1000, unread, sizeof unread, 0x2000, 0x3000, 0, 0, NULL, 0, patch, room == 0 ? 5 : 6, out,
+                  room == 1 ? 10 : 11, moved, room == 2 ? 1 : 2, r), FEDDURZAI_NO_ROOM);
+        CHECK(r->detour.taken == 6 && r->detour.bytes == 11 && r->moved == 2, 1);
+        CHECK(r->view.sight == FEDDURZAI_SIGHT_NOT_READ && r->view.sight_at == 6 && r->view.suspect_from == 12, 1);
+        CHECK(is_untouched(patch, FEDDURZAI_MAX_PATCH) && is_untouched(out, 64) && is_untouched(moved, 4 * sizeof *moved), 1);
+    }
+#undef NOTHING_IS_SEEN
+#undef DETOUR
+#undef DETOUR_AT
+    free(patch);
+    free(out);
+    free(large);
+    free(moved);
+    free(r);
+    free(d);
+}
+
 int main(void)
 {
     CHECK(feddurzai_interface(), FEDDURZAI_INTERFACE);
@@ -1439,6 +1570,7 @@ int main(void)
     check_refusals();
     check_code();
     check_detours();
+    check_ruled_detours();
     printf("%d calls and fields, %d wrong\n", tests, failures);
     return failures != 0;
 }

@@ -38,8 +38,8 @@ def raised(kind, call, *arguments, **named):
     raise AssertionError(f"{call.__name__}{arguments} raises nothing")
 
 
-def refused(reason, call, *arguments, kind=f.Refusal):
-    refusal = raised(kind, call, *arguments)
+def refused(reason, call, *arguments, kind=f.Refusal, **named):
+    refusal = raised(kind, call, *arguments, **named)
     check(refusal.reason, reason)
     return refusal
 
@@ -387,6 +387,43 @@ def hooks_are_made():
     check((type(copy), copy.number, copy.report, str(copy)), (f.Refusal, few.number, few.report, str(few)))
 
 
+def hooks_are_made_by_rules():
+    # mov rax, [rdi]; mov rcx, rax; vsubps zmm0, zmm0, zmm1, which has no row; jmp to the second one; ret
+    unread = code("488b07 4889c1 62f17c4828c1 ebf5 c3")
+    made = f.detour(64, 0x1000, unread, 0x2000, 0x3000, entries=())
+    alone = f.detour(64, 0x1000, unread, 0x2000, 0x3000)
+    check((made, made.moved), (alone, (f.MovedStart(0, 0), f.MovedStart(3, 3))))
+    check(made.view, f.View(f.Sight.NOT_READ, 6, None, None, f.Passage(12, 3)))
+    check((alone.moved, alone.view, len(alone)), (None, None, 7))
+    copy = pickle.loads(pickle.dumps(made))
+    check((type(copy), copy, copy.moved, copy.view), (f.Detour, made, made.moved, made.view))
+    unseen = refused(f.Reason.UNSEEN, f.detour, 64, 0x1000, unread, 0x2000, 0x3000, whole=True)
+    check((unseen.report.at, unseen.report.target), (6, f.Sight.NOT_READ))
+    # mov rax, [rdi]; jmp [8*rax+0x2000]; inc rdi; jmp to the first jump; ret: with the case at 10 known, and without
+    by_table = code("488b07 ff24c500200000 48ffc7 ebf4 c3")
+    unseen = refused(f.Reason.UNSEEN, f.detour, 64, 0x1000, by_table, 0x2000, 0x3000, whole=True)
+    check((unseen.report.at, unseen.report.target), (3, f.Sight.INDIRECT_JUMP))
+    check(str(unseen).endswith(": at offset 3 control jumps to an address in a register or in memory"), True)
+    entered = refused(f.Reason.ENTERED, f.detour, 64, 0x1000, by_table, 0x2000, 0x3000, entries=iter([10]), whole=True)
+    check((entered.report.at, entered.report.target), (13, 3))
+    # cmp byte [rdi], 0; je to the end; inc rdi; jmp to the start; ret
+    loop = code("803f00 7405 48ffc7 ebf6 c3")
+    entered = refused(f.Reason.ENTERED, f.detour, 64, 0x1000, loop, 0x2000, 0x3000, entries=[])
+    check(str(entered), "control may enter the bytes to be overwritten: from offset 8, to offset 0")
+    hooked = f.detour(64, 0x1000, loop, 0x2000, 0x3000, f.Start.HOOKED, whole=True)
+    check((hooked.moved, hooked.view), ((f.MovedStart(0, 0), f.MovedStart(3, 3)), f.View(f.Sight.WHOLE, None, None, None, None)))
+    inside = refused(f.Reason.ENTERED, f.detour, 64, 0x1000, loop, 0x2000, 0x3000, f.Start.HOOKED, entries=[11, 4, 3])
+    check((inside.report.at, inside.report.target), (3, 3))
+    overlaps = refused(f.Reason.OVERLAPS, f.detour, 64, 0x1000, loop, 0x2000, 0x100A, f.Start.HOOKED, entries=())
+    check(str(overlaps), "the trampoline would lie in the bytes of the function")
+    refused(f.Reason.BAD_START, f.detour, 64, 0x1000, loop, 0x2000, 0x3000, 2, whole=True)
+    # the code ends within an instruction, after what is overwritten
+    ended = refused(f.Reason.UNSEEN, f.detour, 64, 0x1000, code("31c0 31c0 90 48"), 0x2000, 0x3000, whole=True)
+    check(str(ended), "control cannot be followed through the whole function: at offset 5 the code ends")
+    raised(ValueError, f.detour, 64, 0, loop, 0, 0, entries=[1 << 32])
+    raised(TypeError, f.detour, 64, 0, loop, 0, 0, entries=["0"])
+
+
 def refusals_say_why():
     mov = f.decode(64, 0x1000, code("48895c2410"))
     refused(f.Reason.BAD_MODE, f.decode, 17, 0, b"\x90")
@@ -597,6 +634,7 @@ for test in (
     codes_have_names,
     moved_and_followed,
     hooks_are_made,
+    hooks_are_made_by_rules,
     refusals_say_why,
     encodings_say_their_cause,
     values_are_looked_at_first,

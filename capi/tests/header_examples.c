@@ -295,6 +295,26 @@ static void looked(void)
     CHECK(view.suspect_from << 8 | view.suspect_target, 5 << 8);
 }
 
+static void hooked_by_rules(void)
+{
+    feddurzai_hook_report hook;
+    feddurzai_moved_start moved[2];
+    // mov rax, [rdi]; mov rcx, rax; an instruction that the table does not have; jmp to the second one; ret
+    static const uint8_t partly_seen[] = {0x48, 0x8b, 0x07, 0x48, 0x89, 0xc1, 0x62, 0xf1, 0x7c, 0x48, 0x28, 0xc1,
+        0xeb, 0xf5, 0xc3};
+    said = feddurzai_detour_with(64, 0x1000, partly_seen, sizeof partly_seen, 0x2000, 0x3000, FEDDURZAI_START_MOVED,
+        1, NULL, 0, patch, sizeof patch, trampoline, sizeof trampoline, moved, 2, &hook);
+    // said is FEDDURZAI_UNSEEN, and hook.detour.at is 6. Without whole sight it is 0, and moved[1] has 3 and 3
+    CHECK(said, FEDDURZAI_UNSEEN);
+    CHECK(hook.detour.at, 6);
+    CHECK(hook.detour.target, FEDDURZAI_SIGHT_NOT_READ);
+    said = feddurzai_detour_with(64, 0x1000, partly_seen, sizeof partly_seen, 0x2000, 0x3000, FEDDURZAI_START_MOVED,
+        0, NULL, 0, patch, sizeof patch, trampoline, sizeof trampoline, moved, 2, &hook);
+    CHECK(said, 0);
+    CHECK(hook.moved, 2);
+    CHECK(moved[1].start << 8 | moved[1].place, 3 << 8 | 3);
+}
+
 int main(void)
 {
     CHECK(versions(), 0);
@@ -311,6 +331,7 @@ int main(void)
     followed();
     hooked();
     looked();
+    hooked_by_rules();
     printf("%d checks of the header's examples, %d failed\n", tests, failures);
     return failures != 0;
 }

@@ -36,6 +36,8 @@ static feddurzai_region region;
 static feddurzai_live live[2];
 static uint64_t place;
 static feddurzai_detour_report detour;
+static feddurzai_hook_report hook;
+static feddurzai_moved_start moved[2];
 static feddurzai_step_report step;
 static uint32_t starts[3], leaders[3];
 static uint8_t kinds[3], access;
@@ -58,6 +60,8 @@ static void fill(void)
     memset(live, 0xaa, sizeof live);
     memset(&place, 0xaa, sizeof place);
     memset(&detour, 0xaa, sizeof detour);
+    memset(&hook, 0xaa, sizeof hook);
+    memset(moved, 0xaa, sizeof moved);
     memset(&step, 0xaa, sizeof step);
     memset(starts, 0xaa, sizeof starts);
     memset(kinds, 0xaa, sizeof kinds);
@@ -75,7 +79,8 @@ static int nothing_was_written(void)
         && is_untouched(&report, sizeof report) && is_untouched(map, sizeof map)
         && is_untouched(&blocks_report, sizeof blocks_report) && is_untouched(places, sizeof places)
         && is_untouched(&region, sizeof region) && is_untouched(live, sizeof live) && is_untouched(&place, sizeof place)
-        && is_untouched(&detour, sizeof detour) && is_untouched(&step, sizeof step)
+        && is_untouched(&detour, sizeof detour) && is_untouched(&hook, sizeof hook) && is_untouched(moved, sizeof moved)
+        && is_untouched(&step, sizeof step)
         && is_untouched(starts, sizeof starts) && is_untouched(leaders, sizeof leaders) && is_untouched(kinds, sizeof kinds)
         && is_untouched(&access, sizeof access)
         && is_untouched(&count, sizeof count) && is_untouched(out, sizeof out) && is_untouched(patch, sizeof patch)
@@ -195,6 +200,16 @@ static void check_nulls(void)
     CHECK(feddurzai_detour(64, 0, small, 7, 0x2000, 0x3000, 0, patch, 6, NULL, sizeof out, &detour), FEDDURZAI_NULL);
     CHECK(feddurzai_detour(64, 0, small, 7, 0x2000, 0x3000, 0, patch, 6, out, sizeof out, NULL), FEDDURZAI_NULL);
     CHECK(feddurzai_detour(64, 0, NULL, 0, 0, 0, 0, NULL, 0, NULL, 0, NULL), FEDDURZAI_NULL);
+#define DETOUR(code, entries, patch, out, moved, hook) \
+    feddurzai_detour_with(64, 0, code, 7, 0x2000, 0x3000, 0, 0, entries, 2, patch, 6, out, SPARE, moved, 2, hook)
+    CHECK(DETOUR(NULL, firsts, patch, out, moved, &hook), FEDDURZAI_NULL);
+    CHECK(DETOUR(small, NULL, patch, out, moved, &hook), FEDDURZAI_NULL);
+    CHECK(DETOUR(small, firsts, NULL, out, moved, &hook), FEDDURZAI_NULL);
+    CHECK(DETOUR(small, firsts, patch, NULL, moved, &hook), FEDDURZAI_NULL);
+    CHECK(DETOUR(small, firsts, patch, out, NULL, &hook), FEDDURZAI_NULL);
+    CHECK(DETOUR(small, firsts, patch, out, moved, NULL), FEDDURZAI_NULL);
+#undef DETOUR
+    CHECK(feddurzai_detour_with(64, 0, NULL, 0, 0, 0, 0, 0, NULL, 0, NULL, 0, NULL, 0, NULL, 0, NULL), FEDDURZAI_NULL);
 
     CHECK(feddurzai_flow(64, 0, NULL, 4, starts, 3, leaders, 3), FEDDURZAI_NULL);
     CHECK(feddurzai_flow(64, 0, code, 4, NULL, 3, leaders, 3), FEDDURZAI_NULL);
@@ -231,6 +246,7 @@ static void check_nulls(void)
     CHECK(feddurzai_flow(17, 0, NULL, 4, starts, 3, leaders, 3), FEDDURZAI_NULL);
     CHECK(feddurzai_flow_from(17, 0, code, 4, NULL, 2, starts, 3, leaders, 3, kinds, 3), FEDDURZAI_NULL);
     CHECK(feddurzai_detour(17, 0, NULL, 7, 0, 0, 9, patch, 6, out, sizeof out, &detour), FEDDURZAI_NULL);
+    CHECK(feddurzai_detour_with(17, 0, small, 7, 0, 0, 9, 0, NULL, 1, patch, 6, out, sizeof out, moved, 2, &hook), FEDDURZAI_NULL);
     CHECK(FEDDURZAI_CAUSE(FEDDURZAI_NULL), 0);
     CHECK(nothing_was_written(), 1);
 
@@ -308,6 +324,11 @@ static void check_empty(void)
     CHECK(feddurzai_detour(64, 0x1000, NULL, 0, 0x2000, 0x3000, 0, NULL, 0, NULL, 0, &detour), FEDDURZAI_SMALL);
     CHECK(detour.taken == 0 && detour.bytes == 0 && detour.at == 0 && detour.target == 5 && detour.form == 0, 1);
     memset(&detour, 0xaa, sizeof detour);
+    CHECK(feddurzai_detour_with(64, 0x1000, small, 7, 0x2000, 0x3000, 0, 1, NULL, 0, NULL, 0, NULL, 0, NULL, 0, &hook), FEDDURZAI_NO_ROOM);
+    CHECK(hook.detour.taken == 6 && hook.detour.bytes == 11 && hook.detour.form == FEDDURZAI_DETOUR_NEAR && hook.moved == 2, 1);
+    CHECK(feddurzai_detour_with(64, 0x1000, NULL, 0, 0x2000, 0x3000, 0, 1, NULL, 0, NULL, 0, NULL, 0, NULL, 0, &hook), FEDDURZAI_SMALL);
+    CHECK(hook.detour.taken == 0 && hook.detour.bytes == 0 && hook.detour.at == 0 && hook.detour.target == 5 && hook.moved == 0, 1);
+    memset(&hook, 0xaa, sizeof hook);
     CHECK(nothing_was_written(), 1);
 }
 
@@ -366,6 +387,8 @@ static void check_zeros(void)
     CHECK(step.bytes == 0 && step.back_at == 0 && step.address == 0 && step.len == 0 && step.done_at == 0, 1);
     CHECK(feddurzai_detour(0, 0, NULL, 0, 0, 0, 0, NULL, 0, NULL, 0, &detour), FEDDURZAI_BAD_MODE);
     CHECK(detour.taken == 0 && detour.bytes == 0 && detour.jump_back == 0 && detour.at == 0 && detour.target == 0, 1);
+    CHECK(feddurzai_detour_with(0, 0, NULL, 0, 0, 0, 0, 0, NULL, 0, NULL, 0, NULL, 0, NULL, 0, &hook), FEDDURZAI_BAD_MODE);
+    CHECK(hook.detour.taken == 0 && hook.detour.at == 0 && hook.detour.target == 0 && hook.view.sight == 0 && hook.moved == 0, 1);
 }
 
 /* a room of `room` bytes, with spare ones behind that no call may write; all are 0xaa */
@@ -481,6 +504,21 @@ static void check_pairs_of_rooms(void)
             CHECK(is_untouched(aside + (fits ? 11 : 0), second - (fits ? 11 : 0) + SPARE), 1);
             free(over);
             free(aside);
+        }
+    for (room = 4; room <= 7; room++)
+        for (second = 0; second <= 3; second++) {
+            uint8_t *over = room_of(room), *aside = room_of(11), *list = room_of(second * sizeof(feddurzai_moved_start));
+            int fits = room >= 6 && second >= 2;
+            size_t written = fits ? 2 * sizeof(feddurzai_moved_start) : 0;
+            CHECK(feddurzai_detour_with(64, 0x1000, small, 7, 0x2000, 0x3000, 0, 1, NULL, 0, over, room, aside, 11,
+                      (feddurzai_moved_start *)(void *)list, second, &hook), fits ? 0 : FEDDURZAI_NO_ROOM);
+            CHECK(hook.detour.taken == 6 && hook.detour.bytes == 11 && hook.moved == 2, 1);
+            CHECK(is_untouched(over + (fits ? 6 : 0), room - (fits ? 6 : 0) + SPARE), 1);
+            CHECK(is_untouched(aside + (fits ? 11 : 0), 11 - (fits ? 11 : 0) + SPARE), 1);
+            CHECK(is_untouched(list + written, second * sizeof(feddurzai_moved_start) - written + SPARE), 1);
+            free(over);
+            free(aside);
+            free(list);
         }
     for (room = 0; room <= 4; room++)
         for (second = 0; second <= 4; second++) {

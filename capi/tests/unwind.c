@@ -21,7 +21,7 @@
 #include <unwind.h>
 
 /*
- * with_known(f, args) calls f with twelve arguments, a known number in each register that a call keeps, and the trap flag;
+ * with_known(f, args) calls f with eighteen arguments, a known number in each register that a call keeps, and the trap flag;
  * known_back is the address behind the call. No frame of a compiler is between, which would keep these registers itself.
  */
 int64_t with_known(void (*f)(void), const uint64_t *args);
@@ -37,7 +37,7 @@ __asm__(
     "    push %r13\n    .cfi_adjust_cfa_offset 8\n    .cfi_rel_offset r13, 0\n"
     "    push %r14\n    .cfi_adjust_cfa_offset 8\n    .cfi_rel_offset r14, 0\n"
     "    push %r15\n    .cfi_adjust_cfa_offset 8\n    .cfi_rel_offset r15, 0\n"
-    "    sub $56, %rsp\n    .cfi_adjust_cfa_offset 56\n"
+    "    sub $104, %rsp\n    .cfi_adjust_cfa_offset 104\n"
     "    mov %rdi, %r11\n"
     "    mov %rsi, %r10\n"
     "    mov 48(%r10), %rax\n    mov %rax, (%rsp)\n"
@@ -46,6 +46,12 @@ __asm__(
     "    mov 72(%r10), %rax\n    mov %rax, 24(%rsp)\n"
     "    mov 80(%r10), %rax\n    mov %rax, 32(%rsp)\n"
     "    mov 88(%r10), %rax\n    mov %rax, 40(%rsp)\n"
+    "    mov 96(%r10), %rax\n    mov %rax, 48(%rsp)\n"
+    "    mov 104(%r10), %rax\n    mov %rax, 56(%rsp)\n"
+    "    mov 112(%r10), %rax\n    mov %rax, 64(%rsp)\n"
+    "    mov 120(%r10), %rax\n    mov %rax, 72(%rsp)\n"
+    "    mov 128(%r10), %rax\n    mov %rax, 80(%rsp)\n"
+    "    mov 136(%r10), %rax\n    mov %rax, 88(%rsp)\n"
     "    mov (%r10), %rdi\n    mov 8(%r10), %rsi\n    mov 16(%r10), %rdx\n"
     "    mov 24(%r10), %rcx\n    mov 32(%r10), %r8\n    mov 40(%r10), %r9\n"
     "    movabs $0x1003100310031003, %rbx\n"
@@ -59,7 +65,7 @@ __asm__(
     "    popf\n    .cfi_adjust_cfa_offset -8\n"
     "    call *%r11\n"
     "known_back:\n"
-    "    add $56, %rsp\n    .cfi_adjust_cfa_offset -56\n"
+    "    add $104, %rsp\n    .cfi_adjust_cfa_offset -104\n"
     "    pop %r15\n    .cfi_adjust_cfa_offset -8\n    .cfi_restore r15\n"
     "    pop %r14\n    .cfi_adjust_cfa_offset -8\n    .cfi_restore r14\n"
     "    pop %r13\n    .cfi_adjust_cfa_offset -8\n    .cfi_restore r13\n"
@@ -73,7 +79,7 @@ __asm__(
     ".popsection\n");
 
 /* a call of the library's function itself; P passes a pointer */
-#define CALL(f, ...) with_known((void (*)(void))f, (const uint64_t[12]){__VA_ARGS__})
+#define CALL(f, ...) with_known((void (*)(void))f, (const uint64_t[18]){__VA_ARGS__})
 #define P(pointer) ((uint64_t)(uintptr_t)(pointer))
 
 /* the numbers of these registers in DWARF */
@@ -157,6 +163,8 @@ static void works(void)
     feddurzai_step_report stepped;
     feddurzai_detour_report detour;
     feddurzai_view view;
+    feddurzai_hook_report hook;
+    feddurzai_moved_start begins[16];
     feddurzai_byte_offsets parts;
     feddurzai_about about;
     feddurzai_touched touched;
@@ -177,6 +185,8 @@ static void works(void)
     CALL(feddurzai_detour, 64, 0x401000, P(code), SIZE, 0x7fff00000000, 0x500000, FEDDURZAI_START_MOVED, P(patch), sizeof patch,
         P(out), sizeof out, P(&detour));
     CALL(feddurzai_look, 64, 0x401000, P(code), SIZE, P(entries), 2, 8, P(entries), 1, FEDDURZAI_START_CLOSED, P(&view));
+    CALL(feddurzai_detour_with, 64, 0x401000, P(code), SIZE, 0x7fff00000000, 0x500000, FEDDURZAI_START_MOVED, 0, P(entries), 2,
+        P(patch), sizeof patch, P(out), sizeof out, P(begins), 16, P(&hook));
     CALL(feddurzai_region_reserve, P(&region), P(live), 4, FEDDURZAI_MAX_STEP, P(&place));
     len = CALL(feddurzai_step, 64, 0x401000, P(code + 19), 5, place, P(out), sizeof out, P(&stepped));
     if (len > 0)

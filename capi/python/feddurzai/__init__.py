@@ -22,7 +22,6 @@ names: `str(Flow.NEXT)` is `Flow.NEXT`. The functions keep no state, so several 
 
 from ._blocks import Block, MovedBlock, move_blocks
 from ._calls import (
-    Detour,
     Moved,
     MovedCode,
     Reached,
@@ -31,7 +30,6 @@ from ._calls import (
     code_of,
     codes_of,
     decode,
-    detour,
     effects,
     encode,
     encoded_len,
@@ -51,6 +49,7 @@ from ._calls import (
     version,
 )
 from ._codes import Code
+from ._detours import Detour, MovedStart, detour
 from ._effects import Effects, MemoryUse, RegisterUse
 from ._items import BadByte, Instr, Item, Rest
 from ._native import INTERFACE, MAX_CODE, MAX_FLOW, MAX_STEP
@@ -81,7 +80,6 @@ from ._operands import Far, Immediate, Memory, Near, Operand, Register, register
 from ._refusal import BlocksReport, DetourReport, InvalidCode, MoveReport, Refusal, StepReport, TooShort
 from ._region import Live, Region
 from ._sight import Passage, View, look
-from ._steps import Step, StepSlot, StepSlots, step, step_len
 from ._steps import Step, StepCall, StepSlot, StepSlots, step, step_call, step_len
 from ._info import About, Use
 from ._unlisted import Shape, Unlisted, measure
@@ -119,6 +117,7 @@ __all__ = [
     "Moved",
     "MovedBlock",
     "MovedCode",
+    "MovedStart",
     "Near",
     "Offsets",
     "Operand",

@@ -8,8 +8,8 @@ from . import _checks, _native
 from ._checks import Buffer
 from ._effects import Effects, effects_of
 from ._items import HIGH_AT, LEN_AT, LOW_AT, SIZE, BadByte, Instr, Item, Rest
-from ._numbers import Access, DetourForm, Flow, Form, Jump, Reason, Start, Style
-from ._refusal import DetourReport, MoveReport, refusal_of, taken
+from ._numbers import Access, Flow, Form, Jump, Reason, Style
+from ._refusal import MoveReport, refusal_of, taken
 from ._info import About, encode_of, info_of, name_of, text_of
 from ._unlisted import measured_item
 
@@ -23,8 +23,6 @@ _KindRoom = _native.room_of(_native.KIND_ROOM)
 _MOVED = struct.Struct("=QQBB6x")
 _REPORT = struct.Struct("=6Q")
 _ReportRoom = _native.room_of(_REPORT.size)
-_DETOUR_REPORT = struct.Struct("=7QB7x")
-_DetourRoom = _native.room_of(_DETOUR_REPORT.size)
 
 
 def version() -> Tuple[int, int, int]:
@@ -452,58 +450,3 @@ def flow(
         )
     )
     return list(map(Reached, starts[:count], leaders[:count], map(_KINDS.__getitem__, kinds[:count])))
-
-
-class Detour(NamedTuple):
-    """Both parts of a hook.
-
-    Write `patch` over the first bytes of the function, and `trampoline` to the place for which it was made. Calling the trampoline is calling
-    the original function. `jump_back`, `slots` and `relay` are the offsets of these parts of the trampoline, None for an absent one.
-
-    >>> made = detour(64, 0x1000, bytes.fromhex("4883ec18 31c0 c3"), 0x2000, 0x3000)
-    >>> made.patch.hex(), made.trampoline.hex(), made.jump_back
-    ('e9fb0f0000cc', '4883ec1831c0e9fbdfffff', 6)
-    """
-
-    patch: bytes
-    trampoline: bytes
-    form: DetourForm
-    jump_back: Optional[int]
-    slots: Optional[int]
-    relay: Optional[int]
-    report: DetourReport
-
-
-def detour(bits: int, ip: int, code: Buffer, to: int, place: int, start: int = Start.MOVED) -> Detour:
-    """Makes the patch and the trampoline that hook the function at address `ip`.
-
-    `code` has the bytes of the function from its first one. Give the whole function: a branch into the overwritten bytes is found in `code`
-    alone. `to` is the address of the replacement. `place` is the address at which the trampoline will be placed; within 2 gigabytes of the
-    function the jump has 5 bytes. `start` is a `Start`. Nothing is written to the function.
-
-    The jump is the first form that reaches: a near jump; a near jump to a relay after the trampoline; 14 bytes with the address.
-
-    Raises Refusal with a report and BAD_MODE, BAD_START, TOO_LARGE (more than MAX_CODE bytes), SMALL, ENDS, ENTERED, WRAPS, TOO_FAR or NO_MEMORY,
-    and InvalidCode or TooShort if the bytes to be overwritten are not instructions.
-
-    >>> try:
-    ...     detour(64, 0x1000, bytes.fromhex("31c0 ffc0 39f8 72fa c3"), 0x2000, 0x3000)
-    ... except Refusal as refusal:
-    ...     print(refusal)
-    control may enter the bytes to be overwritten: from offset 6, to offset 2
-    """
-    code = _checks.code_bytes("code", code)
-    bits, ip = _checks.number("bits", bits, _checks.U32), _checks.number("ip", ip)
-    to, place = _checks.number("to", to), _checks.number("place", place)
-    start = _checks.number("start", start, _checks.U32)
-    room = _DetourRoom()
-    said = _native.detour(bits, ip, code, len(code), to, place, start, None, 0, None, 0, room)
-    report = DetourReport(*_DETOUR_REPORT.unpack(room.raw))
-    if said != Reason.NO_ROOM:
-        raise refusal_of(said, report)
-    patch, trampoline = _native.room_of(report.taken)(), _native.room_of(report.bytes)()
-    said = _native.detour(bits, ip, code, len(code), to, place, start, patch, report.taken, trampoline, report.bytes, room)
-    if said < 0:
-        raise refusal_of(said, DetourReport(*_DETOUR_REPORT.unpack(room.raw)))
-    jump_back, slots, relay = (None if at == report.bytes else at for at in (report.jump_back, report.slots_at, report.relay_at))
-    return Detour(patch.raw, trampoline.raw, DetourForm(report.form), jump_back, slots, relay, report)

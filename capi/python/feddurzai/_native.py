@@ -7,7 +7,7 @@ import os
 from typing import Callable, List, Tuple, Type
 
 # the interface of the header for which this package is written
-INTERFACE = 6
+INTERFACE = 7
 
 MAX_LEN = 15
 MAX_JUMP = 16
@@ -106,5 +106,9 @@ look = _call(_long, "look", _u32, _u64, _at, _size, _at, _size, _u64, _at, _size
 step_call = _call(_short, "step_call", _u32, _u64, _at, _size, _u64, _at, _size, _at)
 step_unlisted = _call(_short, "step_unlisted", _u32, _u64, _at, _size, _u64, _at, _size, _at)
 detour = _call(_long, "detour", _u32, _u64, _at, _size, _u64, _u64, _u32, _at, _size, _at, _size, _at)
+detour_with = _call(
+    *(_long, "detour_with", _u32, _u64, _at, _size, _u64, _u64, _u32, _u32, _at, _size),
+    *(_at, _size, _at, _size, _at, _size, _at),
+)
 flow_from = _call(_long, "flow_from", _u32, _u64, _at, _size, _at, _size, _at, _size, _at, _size, _at, _size)
 flow_unlisted = _call(_long, "flow_unlisted", _u32, _u64, _at, _size, _at, _size, _at, _size, _at, _size, _at, _size)

@@ -364,6 +364,8 @@ class Reason(Named):
     EMPTY = -25
     FULL = -26
     NOT_LIVE = -27
+    UNSEEN = -28
+    OVERLAPS = -29
     NO_ENCODING = -256
 
 

@@ -5,7 +5,7 @@ from __future__ import annotations
 from dataclasses import dataclass
 from typing import Dict, Optional, Tuple, Type, Union
 
-from ._numbers import Cause, Reason
+from ._numbers import Cause, Reason, Sight
 
 _REASONS = {
     Reason.BAD_MODE: "bits must be 16, 32 or 64",
@@ -35,6 +35,13 @@ _REASONS = {
     Reason.EMPTY: "a block must have at least 1 byte",
     Reason.FULL: "no gap of the region is long enough: release a block or ask for fewer bytes",
     Reason.NOT_LIVE: "no live block starts at this address",
+    Reason.UNSEEN: "control cannot be followed through the whole function",
+    Reason.OVERLAPS: "the trampoline would lie in the bytes of the function",
+}
+_SIGHT_ENDS = {
+    Sight.NOT_READ: "no instruction of the table begins",
+    Sight.INDIRECT_JUMP: "control jumps to an address in a register or in memory",
+    Sight.ENDED: "the code ends",
 }
 _CAUSES = {
     Cause.ROW: "no row of the table that exists in the mode has the code",
@@ -77,8 +84,8 @@ class DetourReport:
 
     `taken` is the size of the patch and `bytes` that of the trampoline; `jump_back`, `slots_at` and `relay_at` are offsets in the trampoline,
     `bytes` for an absent part; `form` is a `DetourForm`. After a refusal `at` and `target` say where: the offset of a byte, the sizes of the
-    function and of the jump (SMALL), the offsets that control comes from and goes to (ENTERED), or the number of an instruction and its
-    target (TOO_FAR). Fields that do not apply are 0.
+    function and of the jump (SMALL), the offsets that control comes from and goes to (ENTERED), the number of an instruction and its
+    target (TOO_FAR), or the offset at which sight ends and the `Sight` that says why (UNSEEN). Fields that do not apply are 0.
 
     >>> detour(64, 0x1000, bytes.fromhex("4883ec18 31c0 c3"), 0x2000, 0x3000).report.taken
     6
@@ -221,6 +228,8 @@ def _where(reason: Reason, report: Optional[Report]) -> str:
         return f": the function has {report.at} bytes, the jump {address}"
     if reason is Reason.ENTERED:
         return f": from offset {report.at}, to offset {address}"
+    if reason is Reason.UNSEEN:
+        return f": at offset {report.at} {_SIGHT_ENDS[Sight(address)]}"
     return ""
 
 

@@ -70,10 +70,11 @@ def look(
             *((c_uint32 * len(begins))(*begins), len(begins), start, room),
         )
     )
-    return _view_of(_STRUCT.unpack(room.raw))
+    return view_of(_STRUCT.unpack(room.raw))
 
 
-def _view_of(fields: Tuple[int, ...]) -> View:
+def view_of(fields: Tuple[int, ...]) -> View:
+    """The view of a struct of the library."""
     sight_at, entered_from, entered_target, inside, suspect_from, suspect_target, sight, is_entered, has_inside, has_suspect = fields
     return View(
         Sight(sight),

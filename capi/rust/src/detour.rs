@@ -2,7 +2,8 @@
 
 use crate::error::{Error, Place};
 use crate::moving::size_of;
-use crate::sys::{self, Library, MAX_PATCH};
+use crate::sight::View;
+use crate::sys::{self, HookOut, Library, MAX_PATCH};
 use alloc::vec;
 use alloc::vec::Vec;
 
@@ -82,6 +83,63 @@ pub struct Detour {
     form: DetourForm,
 }
 
+/// What [`Detour::with_rules`] asks of a function besides what every hook does. By default there are no further entries, and
+/// whole sight is not needed.
+///
+/// ```
+/// let rules = feddurzai::DetourRules { entries: &[0x40, 0x91], whole: true };
+/// assert!(rules.whole && feddurzai::DetourRules::default().entries.is_empty());
+/// ```
+#[derive(Clone, Copy, Debug, Default, PartialEq, Eq, Hash)]
+pub struct DetourRules<'a> {
+    /// Further offsets at which control comes in: targets of jump tables, landing pads, a `.cold` part. Those outside the
+    /// code are ignored.
+    pub entries: &'a [u32],
+    /// Whether a function is refused of which not everything is seen.
+    pub whole: bool,
+}
+
+/// A moved instruction of a detour.
+///
+/// ```
+/// use feddurzai::{Detour, DetourRules, DetourStart, MovedStart};
+///
+/// // je to the end; mov rcx, rax; two nops; ret: in the trampoline the branch has 6 bytes
+/// let code = b"\x74\x05\x48\x89\xC1\x90\x90\xC3";
+/// let seen = Detour::with_rules(64, 0x1000, code, 0x2000, 0x3000, DetourStart::Moved, DetourRules::default())?;
+/// assert_eq!(seen.moved, [MovedStart { start: 0, place: 0 }, MovedStart { start: 2, place: 6 }]);
+/// # Ok::<(), feddurzai::Error>(())
+/// ```
+#[derive(Clone, Copy, Debug, PartialEq, Eq, Hash)]
+pub struct MovedStart {
+    /// The offset at which it begins in the function.
+    pub start: u64,
+    /// The offset at which its image begins in the trampoline.
+    pub place: u64,
+}
+
+/// A detour by rules, and what was seen of the function.
+///
+/// ```
+/// use feddurzai::{Detour, DetourRules, DetourStart, Sight};
+///
+/// // sub rsp, 0x18; xor eax, eax; ret
+/// let function = b"\x48\x83\xEC\x18\x31\xC0\xC3";
+/// let seen = Detour::with_rules(64, 0x1000, function, 0x2000, 0x3000, DetourStart::Moved, DetourRules::default())?;
+/// assert_eq!((seen.detour.patch().len(), seen.moved.len(), seen.view.sight), (6, 2, Sight::Whole));
+/// # Ok::<(), feddurzai::Error>(())
+/// ```
+#[derive(Clone, Debug, PartialEq, Eq)]
+#[non_exhaustive]
+pub struct SeenDetour {
+    /// The detour.
+    pub detour: Detour,
+    /// The moved instructions, in order.
+    pub moved: Vec<MovedStart>,
+    /// What was seen.
+    pub view: View,
+}
+
 impl Detour {
     /// Makes a hook of the function at `ip` whose bytes from the first are `code`, at most 1 MiB. `to` is the address of
     /// the replacement, and `place` the address at which the trampoline will be placed. Within 2 gigabytes of the function
@@ -107,8 +165,74 @@ impl Detour {
             status = call(&mut trampoline, &mut report);
         }
         if status < 0 {
-            return Err(Error::of(status, Place { at: report.at, address: report.target, count: 0 }));
+            return Err(Detour::refusal(status, &report));
         }
+        Detour::of(patch, trampoline, &report)
+    }
+
+    /// Makes the hook that [`Detour::new`] makes, looks at the function as [`look`](crate::look) does, and refuses the hook
+    /// if control is seen to enter the overwritten bytes. `docs/hooks.md` of the sources says what the rules are.
+    ///
+    /// ```
+    /// use feddurzai::{Detour, DetourRules, DetourStart, Error, SightEnd};
+    ///
+    /// // mov rax, [rdi]; jmp [8*rax+0x2000]; inc rdi; jmp to the first jump; ret
+    /// let code = b"\x48\x8B\x07\xFF\x24\xC5\x00\x20\x00\x00\x48\xFF\xC7\xEB\xF4\xC3";
+    /// let by = |rules| Detour::with_rules(64, 0x1000, code, 0x2000, 0x3000, DetourStart::Moved, rules).err();
+    /// assert_eq!(by(DetourRules::default()), None);
+    /// // sight ends at the jump by the table
+    /// let whole = DetourRules { whole: true, ..DetourRules::default() };
+    /// assert_eq!(by(whole), Some(Error::Unseen { at: 3, why: SightEnd::IndirectJump }));
+    /// // the table has the offset 10, from where control comes back to that jump
+    /// let known = DetourRules { entries: &[10], ..DetourRules::default() };
+    /// assert_eq!(by(known), Some(Error::Entered { from: 13, to: 3 }));
+    /// ```
+    ///
+    /// # Errors
+    ///
+    /// Those of [`Detour::new`]; then [`Error::Overlaps`], [`Error::Entered`] (an entry within the overwritten bytes has its
+    /// own offset twice) and [`Error::Unseen`].
+    pub fn with_rules(
+        bitness: u32,
+        ip: u64,
+        code: &[u8],
+        to: u64,
+        place: u64,
+        start: DetourStart,
+        rules: DetourRules<'_>,
+    ) -> Result<SeenDetour, Error> {
+        let library = Library::get()?;
+        // a patch has at most MAX_PATCH bytes, and moves no more instructions
+        let (mut patch, mut moved) = (vec![0; MAX_PATCH], vec![sys::MovedStart::ZERO; MAX_PATCH]);
+        let mut trampoline = Vec::new();
+        let mut report = sys::HookReport::default();
+        let mut call = |trampoline: &mut [u8], report: &mut sys::HookReport| {
+            let out = HookOut { patch: &mut patch, trampoline, moved: &mut moved };
+            library.detour_with(bitness, ip, code, to, place, start as u32, rules.whole, rules.entries, out, report)
+        };
+        let mut status = call(&mut trampoline, &mut report);
+        if status == -6 {
+            trampoline = vec![0; size_of(report.detour.bytes)?];
+            status = call(&mut trampoline, &mut report);
+        }
+        if status < 0 {
+            return Err(Detour::refusal(status, &report.detour));
+        }
+        moved.truncate(size_of(report.moved)?);
+        Ok(SeenDetour {
+            detour: Detour::of(patch, trampoline, &report.detour)?,
+            moved: moved.iter().map(|one| MovedStart { start: one.start, place: one.place }).collect(),
+            view: View::of(&report.view),
+        })
+    }
+
+    /// The error of a negative status.
+    fn refusal(status: i32, report: &sys::DetourReport) -> Error {
+        Error::of(status, Place { at: report.at, address: report.target, count: 0 })
+    }
+
+    /// The detour of a patch, whose buffer may be longer, a trampoline and their report.
+    fn of(mut patch: Vec<u8>, trampoline: Vec<u8>, report: &sys::DetourReport) -> Result<Detour, Error> {
         patch.truncate(size_of(report.taken)?);
         let form = match report.form {
             2 => DetourForm::Relay,

@@ -1,5 +1,6 @@
 //! Why a call is refused.
 
+use crate::sight::SightEnd;
 #[cfg(feature = "alloc")]
 use crate::sys;
 use core::fmt;
@@ -82,7 +83,7 @@ pub enum Error {
         /// The offset at which control ends.
         at: u64,
     },
-    /// Control may enter the bytes to be overwritten after the first one.
+    /// Control may enter the bytes to be overwritten after the first one, or go back to the start in mid-function.
     Entered {
         /// The offset that control comes from.
         from: u64,
@@ -97,6 +98,15 @@ pub enum Error {
     Full,
     /// No live block starts at this address.
     NotLive,
+    /// Control cannot be followed through the whole function.
+    Unseen {
+        /// The first reached offset at which sight ends.
+        at: u64,
+        /// Why it ends there.
+        why: SightEnd,
+    },
+    /// The trampoline would lie in the bytes of the function.
+    Overlaps,
     /// The instruction has no encoding: the first of ten conditions that fails.
     NoEncoding {
         /// The condition.
@@ -243,6 +253,8 @@ impl Error {
             -25 => Error::Empty,
             -26 => Error::Full,
             -27 => Error::NotLive,
+            -28 => Error::Unseen { at: place.at, why: SightEnd::of(place.address) },
+            -29 => Error::Overlaps,
             _ => Error::of_encoding(status),
         }
     }
@@ -309,6 +321,10 @@ impl fmt::Display for Error {
                 f.write_str("no gap of the region is long enough: release a block or request fewer bytes")
             }
             Error::NotLive => f.write_str("no live block starts at this address"),
+            Error::Unseen { at, why } => {
+                write!(f, "control cannot be followed through the whole function: at offset {} {}", at, why)
+            }
+            Error::Overlaps => f.write_str("the trampoline would lie in the bytes of the function"),
             Error::NoEncoding { cause, operand: Some(operand) } => {
                 write!(f, "no encoding: operand {}: {}", operand, cause)
             }

@@ -25,13 +25,13 @@
 //! | analyse | [`InstructionInfoFactory`], [`flow_graph`], [`Code::op_code`], [`ConstantOffsets`] |
 //! | construct and encode | [`Instruction::with2`], [`Encoder`], [`assemble`], [`jump()`] |
 //! | move | [`BlockEncoder`], [`move_code`], [`move_blocks`], [`Region`] |
-//! | hook, step | [`Detour`], [`step()`], [`StepSlots`] |
+//! | hook, step | [`Detour`], [`look`], [`step()`], [`StepSlots`] |
 //!
 //! # Numbers
 //!
 //! A bitness is 16, 32 or 64. Addresses are 64-bit, and taken modulo 2^bitness. No call panics: a number out of range is
 //! an [`Error`]. `malloc` is called by [`move_code`], [`move_code_outside`], [`move_blocks`], [`BlockEncoder`],
-//! [`step()`], [`flow_graph`], [`basic_blocks`] and [`Detour`].
+//! [`step()`], [`flow_graph`], [`basic_blocks`], [`Detour`] and [`look`].
 //!
 //! # Linking
 //!
@@ -77,6 +77,7 @@ mod operand;
 #[cfg(feature = "alloc")]
 mod region;
 mod register;
+mod sight;
 #[cfg(feature = "alloc")]
 mod step;
 mod sys;
@@ -84,7 +85,7 @@ mod sys;
 pub use code::{Code, OpCodeInfo};
 pub use decoder::{Decoder, DecoderError, DecoderIntoIter, DecoderIter, DecoderOptions};
 #[cfg(feature = "alloc")]
-pub use detour::{Detour, DetourForm, DetourStart};
+pub use detour::{Detour, DetourForm, DetourRules, DetourStart, MovedStart, SeenDetour};
 #[cfg(feature = "alloc")]
 pub use encoder::Encoder;
 pub use encoder::{assemble, jump, read_intel, Jump, JumpBytes, MAX_INSTRUCTION_LENGTH};
@@ -112,6 +113,9 @@ pub use operand::{MemoryOperand, OpKind, Operand};
 #[cfg(feature = "alloc")]
 pub use region::{LiveBlock, Region};
 pub use register::{Register, RegisterClass};
+pub use sight::SightEnd;
+#[cfg(feature = "alloc")]
+pub use sight::{look, Passage, Sight, StartRule, View};
 #[cfg(feature = "alloc")]
 pub use step::{step, step_call, step_len, step_unlisted, Step, StepCall, StepSlot, StepSlots};
 pub use sys::Text;

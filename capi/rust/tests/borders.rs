@@ -1,9 +1,10 @@
 //! No call panics: every call with numbers at the borders of their types, with empty and with long bytes.
 
 use feddurzai::{
-    assemble, basic_blocks, flow_graph, jump, line_text, move_blocks, move_code, move_code_outside, read_intel, step,
-    step_len, Block, Code, ConstantOffsets, CpuidFeatures, Decoder, DecoderOptions, Detour, DetourStart, Encoder,
-    FormatterSyntax, Instruction, InstructionInfoFactory, Jump, MemoryOperand, Operand, Region, Register, StepSlots,
+    assemble, basic_blocks, flow_graph, jump, line_text, look, move_blocks, move_code, move_code_outside, read_intel,
+    step, step_len, Block, Code, ConstantOffsets, CpuidFeatures, Decoder, DecoderOptions, Detour, DetourRules,
+    DetourStart, Encoder, FormatterSyntax, Instruction, InstructionInfoFactory, Jump, MemoryOperand, Operand, Region,
+    Register, StartRule, StepSlots,
 };
 
 const BITNESSES: [u32; 9] = [0, 1, 15, 16, 32, 63, 64, 128, u32::MAX];
@@ -55,7 +56,12 @@ fn moves_and_hooks() {
                     let _ = (step(bitness, ip, code, place), step_len(bitness, ip, code, place));
                     for start in [DetourStart::Moved, DetourStart::Hooked] {
                         let _ = Detour::new(bitness, ip, code, !place, place, start);
+                        let rules = DetourRules { entries: &[0, 3, u32::MAX], whole: false };
+                        let _ = Detour::with_rules(bitness, ip, code, !place, place, start, rules);
                     }
+                }
+                for rule in [StartRule::Open, StartRule::Closed] {
+                    let _ = look(bitness, ip, CODES[5], &[2, u32::MAX], place as usize, &[0, u32::MAX], rule);
                 }
                 for form in [Jump::Short, Jump::Near, Jump::Far, Jump::CallNear, Jump::CallFar] {
                     let _ = jump(bitness, ip, place, form);

@@ -207,10 +207,50 @@ fn hooks_are_refused() {
     assert!(matches!(wraps, Err(Error::Wraps { .. })), "{:?}", wraps);
 }
 
+#[test]
+fn hooks_follow_rules() {
+    use feddurzai::{look, DetourRules, MovedStart, Passage, Sight, SightEnd, StartRule};
+    let by = |code: &[u8], place, start, entries: &[u32], whole| {
+        Detour::with_rules(64, 0x1000, code, 0x2000, place, start, DetourRules { entries, whole })
+    };
+    // mov rax, [rdi]; mov rcx, rax; vsubps zmm0, zmm0, zmm1, which has no row; jmp to the second one; ret
+    let unread = b"\x48\x8B\x07\x48\x89\xC1\x62\xF1\x7C\x48\x28\xC1\xEB\xF5\xC3";
+    let seen = by(unread, 0x3000, DetourStart::Moved, &[], false).unwrap();
+    assert_eq!(Detour::new(64, 0x1000, unread, 0x2000, 0x3000, DetourStart::Moved), Ok(seen.detour));
+    assert_eq!(seen.moved, [MovedStart { start: 0, place: 0 }, MovedStart { start: 3, place: 3 }]);
+    assert_eq!(seen.view.sight, Sight::Ends { at: 6, why: SightEnd::NotRead });
+    assert_eq!((seen.view.entered, seen.view.inside), (None, None));
+    assert_eq!(seen.view.suspect, Some(Passage { from: 12, target: 3 }));
+    assert_eq!(look(64, 0x1000, unread, &[], 6, &[0, 3], StartRule::Closed), Ok(seen.view));
+    let refused = by(unread, 0x3000, DetourStart::Moved, &[], true).unwrap_err();
+    assert_eq!(refused, Error::Unseen { at: 6, why: SightEnd::NotRead });
+    // mov rax, [rdi]; jmp [8*rax+0x2000]; inc rdi; jmp to the first jump; ret
+    let by_table = b"\x48\x8B\x07\xFF\x24\xC5\x00\x20\x00\x00\x48\xFF\xC7\xEB\xF4\xC3";
+    let refused = by(by_table, 0x3000, DetourStart::Moved, &[], true).unwrap_err();
+    assert_eq!(refused, Error::Unseen { at: 3, why: SightEnd::IndirectJump });
+    let refused = by(by_table, 0x3000, DetourStart::Moved, &[10], true).unwrap_err();
+    assert_eq!(refused, Error::Entered { from: 13, to: 3 });
+    // cmp byte ptr [rdi], 0; je to the end; inc rdi; jmp to the start; ret
+    let looping = b"\x80\x3F\x00\x74\x05\x48\xFF\xC7\xEB\xF6\xC3";
+    let refused = by(looping, 0x3000, DetourStart::Moved, &[], false).unwrap_err();
+    assert_eq!(refused, Error::Entered { from: 8, to: 0 });
+    let seen = by(looping, 0x3000, DetourStart::Hooked, &[11, u32::MAX], true).unwrap();
+    assert_eq!((seen.detour.patch().len(), seen.view.sight, seen.view.inside), (5, Sight::Whole, None));
+    let refused = by(looping, 0x3000, DetourStart::Hooked, &[4, 3], false).unwrap_err();
+    assert_eq!(refused, Error::Entered { from: 3, to: 3 });
+    assert_eq!(by(looping, 0x100A, DetourStart::Hooked, &[], false), Err(Error::Overlaps));
+    assert!(by(looping, 0x100B, DetourStart::Hooked, &[], false).is_ok());
+    // an entry within is seen, and refused by no look; the code ends after the part that is overwritten
+    let view = look(64, 0x1000, b"\x31\xC0\x31\xC0\x90\x48", &[2, 4], 5, &[0, 2, 4], StartRule::Open).unwrap();
+    assert_eq!((view.sight, view.inside), (Sight::Ends { at: 5, why: SightEnd::Ended }, Some(2)));
+    assert_eq!(look(0, 0, b"", &[], 0, &[], StartRule::Open), Err(Error::BadMode));
+    assert_eq!(look(64, 0, &vec![0x90; (1 << 20) + 1], &[], 5, &[0], StartRule::Open), Err(Error::TooLarge));
+}
+
 /// Every message is a sentence of its own, and no error is lost.
 #[test]
 fn errors_are_shown() {
-    use feddurzai::Cause;
+    use feddurzai::{Cause, SightEnd};
     let all = [
         Error::BadMode,
         Error::BadCode,
@@ -234,6 +274,10 @@ fn errors_are_shown() {
         Error::Empty,
         Error::Full,
         Error::NotLive,
+        Error::Unseen { at: 1, why: SightEnd::NotRead },
+        Error::Unseen { at: 1, why: SightEnd::IndirectJump },
+        Error::Unseen { at: 1, why: SightEnd::Ended },
+        Error::Overlaps,
         Error::NoEncoding { cause: Cause::Kind, operand: Some(1) },
         Error::NoEncoding { cause: Cause::Length, operand: None },
         Error::Scattered { instruction: 1 },
@@ -262,6 +306,7 @@ fn types_are_send_and_sync() {
     is::<feddurzai::IntelFormatter>();
     is::<feddurzai::MovedCode>();
     is::<Detour>();
+    is::<feddurzai::SeenDetour>();
     is::<Region>();
     is::<StepSlots>();
     is::<feddurzai::FlowGraph>();

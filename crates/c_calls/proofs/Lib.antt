@@ -2,6 +2,7 @@ pub mod ThereAndBack
 pub mod FewUses
 pub mod FewReached
 pub mod PutKinds
+pub mod PutStarts
 pub mod ItemsInOrder
 pub mod MovedEntries
 pub mod ItemStructs
@@ -23,4 +24,5 @@ pub mod ShortTexts
 pub mod ShortWords
 pub mod ShortJumps
 pub mod ShortPatches
+pub mod MovedPairs
 pub mod RegionUnits

@@ -19,6 +19,7 @@ pub mod Moving
 pub mod Blocks
 pub mod Hooks
 pub mod Looking
+pub mod Ruled
 pub mod Steps
 pub mod StepCalls
 pub mod UnlistedSteps

@@ -341,3 +341,25 @@ pub struct FlatView {
     /// 1 if there is a suspect, else 0.
     pub has_suspect: u8,
 }
+
+/// A moved instruction of a detour.
+#[derive(Clone, Copy)]
+#[repr(C)]
+pub struct FlatMovedStart {
+    /// Its offset in the function.
+    pub start: u64,
+    /// The offset of its image in the trampoline.
+    pub place: u64,
+}
+
+/// The report of a detour by rules.
+#[derive(Clone, Copy)]
+#[repr(C)]
+pub struct FlatHook {
+    /// The report of the detour.
+    pub detour: FlatDetour,
+    /// What is seen of the function; all 0 without a detour.
+    pub view: FlatView,
+    /// How many instructions are moved; 0 without a detour.
+    pub moved: u64,
+}

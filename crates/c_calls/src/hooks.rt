@@ -13,7 +13,7 @@ use detour::{Detour, DetourError, JumpForm, StartTarget, detour};
 use std::alloc::Global;
 
 /// How many bytes a function has at most.
-const MOST: usize = 1_048_576;
+pub(crate) const MOST: usize = 1_048_576;
 
 /// Why no detour is made.
 #[derive(Clone, Copy)]
@@ -32,7 +32,7 @@ pub(crate) enum HookRefusal {
 
 /// What becomes of the function's own start, by its number.
 #[tactic(auto, unfolding(crate::specs::Hooks::start_numbered))]
-fn start_numbered(n: u32) -> Option<StartTarget>
+pub(crate) fn start_numbered(n: u32) -> Option<StartTarget>
     ensures { result ≡ spec.start_numbered n }
 {
     match n {
@@ -43,7 +43,7 @@ fn start_numbered(n: u32) -> Option<StartTarget>
 }
 
 /// Why there is no detour, by the refusals of all calls.
-fn detour_refusal(why: DetourError) -> Refusal
+pub(crate) fn detour_refusal(why: DetourError) -> Refusal
     ensures { result ≡ spec.detour_refusal why }
 {
     match why {
@@ -74,7 +74,7 @@ fn hook_refusal(why: HookRefusal) -> Refusal
 }
 
 /// No numbers.
-const NOTHING: FlatDetour = FlatDetour {
+pub(crate) const NOTHING: FlatDetour = FlatDetour {
     taken: 0,
     bytes: 0,
     jump_back: 0,
@@ -86,7 +86,7 @@ const NOTHING: FlatDetour = FlatDetour {
 };
 
 /// The numbers of a cause.
-fn cause_report(why: DetourError) -> FlatDetour
+pub(crate) fn cause_report(why: DetourError) -> FlatDetour
     ensures { result ≡ spec.cause_report why }
 {
     match why {
@@ -157,7 +157,7 @@ fn jump_back_or(offset: Option<u64>, end: u64) -> u64
 }
 
 /// The numbers of a detour.
-fn detour_report(d: &Detour) -> FlatDetour
+pub(crate) fn detour_report(d: &Detour) -> FlatDetour
     ensures { result ≡ spec.detour_report d.now }
 {
     let bytes = d.trampoline().len() as u64;

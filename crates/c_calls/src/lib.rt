@@ -35,6 +35,7 @@ pub mod region;
 mod region_search;
 pub mod row_operands;
 pub mod rows;
+pub mod ruled;
 pub mod sight;
 pub mod step_calls;
 pub mod stepping;

@@ -60,6 +60,10 @@ pub(crate) enum Refusal {
     Full,
     /// No live block starts there.
     NotLive,
+    /// Not all of a function is seen.
+    Unseen,
+    /// The trampoline would lie in the given bytes of the function.
+    Overlaps,
     /// The instruction has no plain spelling there: the condition that fails, and the operand that fails it, 0 for a condition of the whole instruction.
     Spelling { why: NoSpelling, operand: u8 },
 }
@@ -114,6 +118,8 @@ fn refusal_number(why: Refusal) -> u16
         Refusal::Empty => 25,
         Refusal::Full => 26,
         Refusal::NotLive => 27,
+        Refusal::Unseen => 28,
+        Refusal::Overlaps => 29,
         Refusal::Spelling { why, operand } => condition_number(why) + u16::from(operand),
     }
 }

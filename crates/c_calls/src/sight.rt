@@ -27,7 +27,7 @@ fn rule_numbered(n: u32) -> Option<StartRule>
 }
 
 /// The number of the cause that ends sight.
-fn end_number(why: SightEnd) -> u8
+pub(crate) fn end_number(why: SightEnd) -> u8
     ensures { result ≡ spec.end_number why }
 {
     match why {
@@ -108,7 +108,7 @@ fn has_offset(offset: Option<usize>) -> u8
 }
 
 /// A view as a flat struct.
-fn flat_view(view: &View) -> FlatView
+pub(crate) fn flat_view(view: &View) -> FlatView
     ensures { result ≡ spec.flat_view view.now }
 {
     FlatView {

@@ -224,6 +224,38 @@ extern "C" {
         trampoline_room: usize,
         report: *mut DetourReport,
     ) -> i32;
+    fn feddurzai_detour_with(
+        bits: u32,
+        ip: u64,
+        code: *const u8,
+        len: usize,
+        to: u64,
+        place: u64,
+        start: u32,
+        whole: u32,
+        entries: *const u32,
+        entry_count: usize,
+        patch: *mut u8,
+        patch_room: usize,
+        trampoline: *mut u8,
+        trampoline_room: usize,
+        moved: *mut MovedStart,
+        moved_room: usize,
+        report: *mut HookReport,
+    ) -> i32;
+    fn feddurzai_look(
+        bits: u32,
+        ip: u64,
+        code: *const u8,
+        len: usize,
+        entries: *const u32,
+        entry_count: usize,
+        taken: u64,
+        moved: *const u32,
+        moved_count: usize,
+        start: u32,
+        view: *mut View,
+    ) -> i32;
 }
 
 /// Returns the interface of the linked library.
@@ -550,6 +582,14 @@ pub struct FlowOut<'a> {
     pub kinds: &'a mut [u8],
 }
 
+/// Where a detour by rules goes: its parts and the list of its moved instructions.
+#[cfg(feature = "alloc")]
+pub struct HookOut<'a> {
+    pub patch: &'a mut [u8],
+    pub trampoline: &'a mut [u8],
+    pub moved: &'a mut [MovedStart],
+}
+
 /// The calls that allocate memory, and regions.
 #[cfg(feature = "alloc")]
 impl Library {
@@ -783,6 +823,74 @@ impl Library {
                 trampoline.as_mut_ptr(),
                 trampoline.len(),
                 report,
+            )
+        }
+    }
+
+    pub fn detour_with(
+        self,
+        bits: u32,
+        ip: u64,
+        code: &[u8],
+        to: u64,
+        place: u64,
+        start: u32,
+        whole: bool,
+        entries: &[u32],
+        out: HookOut<'_>,
+        report: &mut HookReport,
+    ) -> i32 {
+        // SAFETY: each slice has as many elements as its length says, `report` is a struct of the header, and no argument
+        // that is written overlaps another.
+        unsafe {
+            feddurzai_detour_with(
+                bits,
+                ip,
+                code.as_ptr(),
+                code.len(),
+                to,
+                place,
+                start,
+                u32::from(whole),
+                entries.as_ptr(),
+                entries.len(),
+                out.patch.as_mut_ptr(),
+                out.patch.len(),
+                out.trampoline.as_mut_ptr(),
+                out.trampoline.len(),
+                out.moved.as_mut_ptr(),
+                out.moved.len(),
+                report,
+            )
+        }
+    }
+
+    pub fn look(
+        self,
+        bits: u32,
+        ip: u64,
+        code: &[u8],
+        entries: &[u32],
+        taken: u64,
+        moved: &[u32],
+        start: u32,
+        view: &mut View,
+    ) -> i32 {
+        // SAFETY: each slice has as many elements as its length says, and `view` is a struct of the header that overlaps no
+        // other argument.
+        unsafe {
+            feddurzai_look(
+                bits,
+                ip,
+                code.as_ptr(),
+                code.len(),
+                entries.as_ptr(),
+                entries.len(),
+                taken,
+                moved.as_ptr(),
+                moved.len(),
+                start,
+                view,
             )
         }
     }

@@ -180,4 +180,28 @@ structs! {
         target: u64,
         form: u8,
     }
+    /// What is seen of a function before a hook.
+    View = "feddurzai_view" {
+        sight_at: u64,
+        entered_from: u64,
+        entered_target: u64,
+        inside: u64,
+        suspect_from: u64,
+        suspect_target: u64,
+        sight: u8,
+        is_entered: u8,
+        has_inside: u8,
+        has_suspect: u8,
+    }
+    /// A moved instruction of a detour.
+    MovedStart = "feddurzai_moved_start" {
+        start: u64,
+        place: u64,
+    }
+    /// The report of a detour by rules.
+    HookReport = "feddurzai_hook_report" {
+        detour: DetourReport,
+        view: View,
+        moved: u64,
+    }
 }

@@ -1,8 +1,9 @@
 //! Structs of which nothing is written yet.
 
 use c_calls::flat::{
-    FlatBlocks, FlatDetour, FlatInfo, FlatInstr, FlatMemoryUse, FlatMove, FlatMoved, FlatOffsets,
-    FlatOperand, FlatPart, FlatPlace, FlatShape, FlatStep, FlatTouched, FlatUse, FlatView,
+    FlatBlocks, FlatDetour, FlatHook, FlatInfo, FlatInstr, FlatMemoryUse, FlatMove, FlatMoved,
+    FlatMovedStart, FlatOffsets, FlatOperand, FlatPart, FlatPlace, FlatShape, FlatStep,
+    FlatTouched, FlatUse, FlatView,
 };
 
 const NO_OPERAND: FlatOperand = FlatOperand {
@@ -154,6 +155,15 @@ pub(crate) const NO_VIEW: FlatView = FlatView {
     is_entered: 9,
     has_inside: 9,
     has_suspect: 9,
+};
+
+/// Numbers that are none, so that a call that leaves them is seen.
+pub(crate) const NO_START: FlatMovedStart = FlatMovedStart { start: 9, place: 9 };
+
+pub(crate) const NO_HOOK: FlatHook = FlatHook {
+    detour: NO_DETOUR,
+    view: NO_VIEW,
+    moved: 9,
 };
 
 pub(crate) const NO_STEP: FlatStep = FlatStep {

@@ -1,13 +1,18 @@
 //! Moving and following code, detours, and what is seen before one.
 
 use crate::c_tests::compare::{answers, are, are_offsets, gave, wrote};
-use crate::c_tests::empty::{NO_BLOCKS, NO_DETOUR, NO_ENTRY, NO_MOVE, NO_PLACE, NO_VIEW};
+use crate::c_tests::empty::{
+    NO_BLOCKS, NO_DETOUR, NO_ENTRY, NO_HOOK, NO_MOVE, NO_PLACE, NO_START, NO_VIEW,
+};
 use c_calls::blocks::move_blocks;
-use c_calls::flat::{FlatBlock, FlatDetour, FlatMove, FlatMoved, FlatPlace, FlatView};
+use c_calls::flat::{
+    FlatBlock, FlatDetour, FlatHook, FlatMove, FlatMoved, FlatMovedStart, FlatPlace, FlatView,
+};
 use c_calls::flow::flow;
 use c_calls::flow_from::flow_from;
 use c_calls::hooks::make_detour;
 use c_calls::moving::{move_code, move_outside};
+use c_calls::ruled::make_detour_with;
 use c_calls::sight::look;
 use std::process::Abort;
 
@@ -175,6 +180,62 @@ fn a_function_is_seen(rt: HostRuntime) {
     let answer = look(rt.alloc(), 64, 0x1000, UNSEEN, &[], 5, &[0], 1, &mut view);
     answers(&rt, "the call", answer, 0);
     is_the_view(&rt, &view);
+}
+
+/// `je` to the end, `mov rcx, rax`, an instruction without a row, and `ret`.
+const PARTLY_SEEN: &[u8] = b"\x74\x09\x48\x89\xc1\x62\xf1\x7c\x48\x28\xc1\xc3";
+
+/// That two instructions are taken and moved, and that sight ends behind them.
+fn is_the_hook(rt: &impl Abort, made: &FlatHook) {
+    let found = [
+        made.detour.taken,
+        made.detour.bytes,
+        made.detour.jump_back,
+        made.moved,
+    ];
+    are(rt, "the detour", &found, &[5, 14, 9, 2]);
+    let found = [
+        made.view.sight as u64,
+        made.view.sight_at,
+        made.view.is_entered as u64,
+        made.view.has_suspect as u64,
+    ];
+    are(rt, "the view", &found, &[1, 5, 0, 0]);
+}
+
+/// That an instruction of the function has its image at a place of the trampoline.
+fn is_moved_start(rt: &impl Abort, of: &str, moved: &FlatMovedStart, start: u64, place: u64) {
+    are(rt, of, &[moved.start, moved.place], &[start, place]);
+}
+
+// In the trampoline the branch has 6 bytes in place of 2.
+#[test]
+fn a_detour_is_made_by_rules(rt: HostRuntime) {
+    let (mut patch, mut trampoline) = ([0xaa; 5], [0xaa; 14]);
+    let mut moved = [NO_START; 3];
+    let mut made = NO_HOOK;
+    let answer = make_detour_with(
+        rt.alloc(),
+        64,
+        0x1000,
+        PARTLY_SEEN,
+        0x2000,
+        0x3000,
+        0,
+        0,
+        &[11],
+        &mut patch,
+        &mut trampoline,
+        &mut moved,
+        &mut made,
+    );
+    is_the_hook(&rt, &made);
+    wrote(&rt, "the patch", answer, &patch, 0, b"\xe9\xfb\x0f\0\0");
+    let want = b"\x0f\x84\x05\xe0\xff\xff\x48\x89\xc1\xe9\xf7\xdf\xff\xff";
+    wrote(&rt, "the trampoline", answer, &trampoline, 0, want);
+    is_moved_start(&rt, "the first", &moved[0], 0, 0);
+    is_moved_start(&rt, "the second", &moved[1], 2, 6);
+    is_moved_start(&rt, "no third", &moved[2], 9, 9);
 }
 
 /// 1000: jne 1100; ret. 1100: jmp 1006.

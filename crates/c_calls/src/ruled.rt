@@ -1,0 +1,231 @@
+//! Detours of functions that are refused if control is seen to enter what they overwrite, or is not seen everywhere.
+
+ghost use Rattle.std.specs.Prelude.{◌≡◌, ◌≤◌, ◌<◌, ◌++◌, length, drop, IfOk};
+ghost use Rattle.c_calls.specs.Numbers.{bits_numbered};
+ghost use Rattle.c_calls.specs.Hooks.{start_numbered};
+ghost use Rattle.c_calls.specs.Ruled as spec;
+
+use crate::buffers::write_front;
+use crate::flat::{FlatDetour, FlatHook, FlatMovedStart, FlatView};
+use crate::hooks::{
+    MOST, NOTHING, cause_report, detour_refusal, detour_report, start_numbered,
+};
+use crate::numbers::bits_numbered;
+use crate::refusal::{Refusal, refusal_status};
+use crate::sight::{end_number, flat_view};
+use detour::{RuleError, SeenDetour, detour_with};
+use std::alloc::Global;
+
+/// Why no detour is made.
+#[derive(Clone, Copy)]
+pub(crate) enum RuledRefusal {
+    /// The mode is none.
+    Mode,
+    /// The number of what becomes of the function's own start is neither of the two.
+    Start,
+    /// There are more than 1,048,576 bytes.
+    TooLarge,
+    /// There is no detour by the rules, for this cause.
+    NoDetour(RuleError),
+    /// A buffer is too small.
+    Room,
+}
+
+/// Why the rules give no detour, by the refusals of all calls.
+fn rule_refusal(why: RuleError) -> Refusal
+    ensures { result ≡ spec.rule_refusal why }
+{
+    match why {
+        RuleError::Detour(cause) => detour_refusal(cause),
+        RuleError::Overlaps => Refusal::Overlaps,
+        RuleError::Entered { .. } => Refusal::Entered,
+        RuleError::Unseen { .. } => Refusal::Unseen,
+    }
+}
+
+/// Why nothing is made, by the refusals of all calls.
+fn ruled_refusal(why: RuledRefusal) -> Refusal
+    ensures { result ≡ spec.ruled_refusal why }
+{
+    match why {
+        RuledRefusal::Mode => Refusal::Mode,
+        RuledRefusal::Start => Refusal::Start,
+        RuledRefusal::TooLarge => Refusal::TooLarge,
+        RuledRefusal::NoDetour(cause) => rule_refusal(cause),
+        RuledRefusal::Room => Refusal::Room,
+    }
+}
+
+/// Nothing seen.
+const NO_VIEW: FlatView = FlatView {
+    sight_at: 0,
+    entered_from: 0,
+    entered_target: 0,
+    inside: 0,
+    suspect_from: 0,
+    suspect_target: 0,
+    sight: 0,
+    is_entered: 0,
+    has_inside: 0,
+    has_suspect: 0,
+};
+
+/// The numbers of a cause of the rules.
+fn rule_report(why: RuleError) -> FlatDetour
+    ensures { result ≡ spec.rule_report why }
+{
+    match why {
+        RuleError::Detour(cause) => cause_report(cause),
+        RuleError::Overlaps => NOTHING,
+        RuleError::Entered { from, target } => FlatDetour {
+            at: from as u64,
+            target: target as u64,
+            ..NOTHING
+        },
+        RuleError::Unseen { at, why } => FlatDetour {
+            at: at as u64,
+            target: u64::from(end_number(why)),
+            ..NOTHING
+        },
+    }
+}
+
+/// The numbers of a refusal.
+fn refusal_report(why: RuledRefusal) -> FlatDetour
+    ensures { result ≡ spec.refusal_report why }
+{
+    match why {
+        RuledRefusal::NoDetour(cause) => rule_report(cause),
+        _ => NOTHING,
+    }
+}
+
+/// Returns the report of a result.
+fn ruled_report(answer: &Result<SeenDetour, RuledRefusal>) -> FlatHook
+    ensures { result ≡ spec.ruled_report answer.now }
+{
+    match answer {
+        Ok(seen) => FlatHook {
+            detour: detour_report(&seen.detour),
+            view: flat_view(&seen.view),
+            moved: seen.detour.starts().len() as u64,
+        },
+        Err(why) => FlatHook {
+            detour: refusal_report(*why),
+            view: NO_VIEW,
+            moved: 0,
+        },
+    }
+}
+
+/// The detour of a function by the rules, by the numbers of a mode and of what becomes of its start.
+fn ruled_of(
+    alloc: Global,
+    bits: u32,
+    ip: u64,
+    code: &[u8],
+    to: u64,
+    place: u64,
+    start: u32,
+    entries: &[u32],
+    whole: bool,
+) -> Result<SeenDetour, RuledRefusal>
+    ensures { spec.IsRuledAnswerBy (bits_numbered bits) (start_numbered start) ip code.now to place entries.now whole result }
+{
+    let Some(bits) = bits_numbered(bits) else {
+        return Err(RuledRefusal::Mode);
+    };
+    let Some(start) = start_numbered(start) else {
+        return Err(RuledRefusal::Start);
+    };
+    if code.len() > MOST {
+        return Err(RuledRefusal::TooLarge);
+    }
+    match detour_with(alloc, bits, ip, code, to, place, start, entries, whole) {
+        Ok(seen) => Ok(seen),
+        Err(cause) => Err(RuledRefusal::NoDetour(cause)),
+    }
+}
+
+/// Moved instruction `k`.
+#[tactic(auto, unfolding(crate::specs::Ruled::moved_start))]
+fn moved_start(starts: &[u32], places: &[u64], k: usize) -> FlatMovedStart
+    requires start { k < length starts.now }
+    requires place { k < length places.now }
+    ensures { result ≡ spec.moved_start starts.now places.now k }
+{
+    FlatMovedStart {
+        start: u64::from(starts[k]),
+        place: places[k],
+    }
+}
+
+/// Writes the moved instructions at the start of a buffer.
+fn write_moved(room: &mut [FlatMovedStart], starts: &[u32], places: &[u64])
+    requires fits { length starts.now ≤ length room.old }
+    requires pairs { length places.now ≡ length starts.now }
+    ensures { room.new ≡ spec.moved_starts starts.now places.now (length starts.now) ++ drop (length starts.now) room.old }
+{
+    'moved: for k in 0..starts.len() {
+        room[k] = moved_start(starts, places, k);
+    }
+}
+
+/// Writes the patch, the trampoline and the moved instructions, if all three buffers are large enough.
+#[tactic(auto, unfolding(crate::specs::Ruled::ruled_within))]
+fn put_ruled(
+    answer: &Result<SeenDetour, RuledRefusal>,
+    patch: &mut [u8],
+    trampoline: &mut [u8],
+    moved: &mut [FlatMovedStart],
+) -> i32
+    requires pairs { IfOk answer.now (λ seen. length seen.detour.places ≡ length seen.detour.starts) }
+    ensures said { result ≡ spec.ruled_said (spec.ruled_within (length patch.old) (length trampoline.old) (length moved.old) answer.now) }
+    ensures patch { patch.new ≡ spec.patch_left patch.old (spec.ruled_within (length patch.old) (length trampoline.old) (length moved.old) answer.now) }
+    ensures trampoline { trampoline.new ≡ spec.trampoline_left trampoline.old
+        (spec.ruled_within (length patch.old) (length trampoline.old) (length moved.old) answer.now) }
+    ensures moved { moved.new ≡ spec.moved_left moved.old (spec.ruled_within (length patch.old) (length trampoline.old) (length moved.old) answer.now) }
+{
+    match answer {
+        Ok(seen) => {
+            let made = &seen.detour;
+            if made.patch().len() > patch.len()
+                || made.trampoline().len() > trampoline.len()
+                || made.starts().len() > moved.len()
+            {
+                return refusal_status(Refusal::Room);
+            }
+            write_front(patch, made.patch());
+            write_front(trampoline, made.trampoline());
+            write_moved(moved, made.starts(), made.places());
+            0
+        }
+        Err(why) => refusal_status(ruled_refusal(*why)),
+    }
+}
+
+/// Makes a detour of a function, if control is not seen to enter what it overwrites: a patch, a trampoline, and where the moved instructions lie.
+pub fn make_detour_with(
+    alloc: Global,
+    bits: u32,
+    ip: u64,
+    code: &[u8],
+    to: u64,
+    place: u64,
+    start: u32,
+    whole: u32,
+    entries: &[u32],
+    patch: &mut [u8],
+    trampoline: &mut [u8],
+    moved: &mut [FlatMovedStart],
+    report: &mut FlatHook,
+) -> i32
+    ensures { spec.IsRuledCall bits ip code.now to place start whole entries.now patch.old patch.new trampoline.old trampoline.new moved.old moved.new
+        report.new result }
+{
+    let answer = ruled_of(
+        alloc, bits, ip, code, to, place, start, entries, whole != 0,
+    );
+    *report = ruled_report(&answer);
+    put_ruled(&answer, patch, trampoline, moved)
+}
