@@ -7,12 +7,12 @@ ghost use Rattle.c_calls.specs.Many as spec;
 
 use crate::buffers::count_answer;
 use crate::flat::FlatInstr;
-use crate::flatten::{ABSENT, flat_decoded};
+use crate::flatten::{ABSENT, flat_into};
 use crate::numbers::bits_numbered;
 use crate::refusal::{Refusal, refusal_status};
-use decoder::DecodeError;
+use decoder::{DecodeError, UNREAD};
 use sweep::sweep_text::laws::items_stand_in_turn;
-use sweep::sweep_text::{item_len, read_at};
+use sweep::sweep_text::{item_len, read_onto};
 use x86_values::{Bits, Decoded};
 
 /// How many items one call gives at most.
@@ -43,14 +43,15 @@ const fn single_byte(code: u16) -> FlatInstr
     }
 }
 
-/// The struct of an item.
-fn flat_reading(reading: &Result<Decoded, DecodeError>) -> FlatInstr
-    ensures { result ≡ spec.flat_reading (reading_of reading.now) }
+/// Writes the struct of an item to its place.
+#[inline(always)]
+fn reading_into(reading: &Result<Decoded, DecodeError>, out: &mut FlatInstr)
+    ensures { out.new ≡ spec.flat_reading (reading_of reading.now) }
 {
     match reading {
-        Ok(decoded) => flat_decoded(decoded),
-        Err(DecodeError::TooShort) => single_byte(0xfffe),
-        Err(DecodeError::Invalid) => single_byte(0xffff),
+        Ok(decoded) => flat_into(decoded, out),
+        Err(DecodeError::TooShort) => *out = single_byte(0xfffe),
+        Err(DecodeError::Invalid) => *out = single_byte(0xffff),
     }
 }
 
@@ -61,12 +62,13 @@ fn sweep_into(bits: Bits, ip: u64, bytes: &[u8], instrs: &mut [FlatInstr]) -> Sw
 {
     items_stand_in_turn();
     let most = instrs.len().min(MOST_ITEMS);
+    let mut reading = Ok(UNREAD);
     let mut count: usize = 0;
     let mut at: usize = 0;
     while at < bytes.len() && count < most {
         let (_, rest) = bytes.split_at(at);
-        let reading = read_at(bits, ip, at, rest);
-        instrs[count] = flat_reading(&reading);
+        read_onto(bits, ip, at, rest, &mut reading);
+        reading_into(&reading, &mut instrs[count]);
         at += item_len(&reading);
         count += 1;
     }
