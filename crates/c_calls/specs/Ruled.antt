@@ -1,10 +1,11 @@
 -- What making a detour by rules answers, and what it leaves in the rooms.
-use Rattle.std.specs.Prelude.{◌≡◌, ℕ, ◌==◌, ◌<◌, ◌≤◌, nat_le, ◌&&◌, Bool, not, ℤ, pos, List, ◌++◌, length, drop, map, slice_index_or, Option, Some, None, Result, Ok, Err, if◌then◌else◌}
+use Rattle.std.specs.Prelude.{◌≡◌, ℕ, ◌/◌, ◌%◌, ◌==◌, ◌<◌, ◌≤◌, nat_le, nat_lt, ◌&&◌, ℤ, pos, List, ◌++◌, length, drop, map, slice_index_or, Option, Some, None, Result, Ok, Err, if◌then◌else◌}
 use Rattle.std.specs.List.{range_with_len}
 use Rattle.x86_values.specs.declared.Bits.{Bits}
 use Rattle.detour.specs.declared.start.StartTarget.{StartTarget}
 use Rattle.detour.specs.declared.rules.RuleError.{RuleError}
 use Rattle.detour.specs.declared.rules.RuleError.TheVariants as rule
+use Rattle.detour.specs.declared.rules.HookRules.{HookRules}
 use Rattle.detour.specs.declared.rules.SeenDetour.{SeenDetour}
 use Rattle.detour.specs.Rules.{IsRuledAnswer}
 use Rattle.c_calls.specs.declared.refusal.Refusal.{Refusal}
@@ -17,30 +18,32 @@ use Rattle.c_calls.specs.declared.ruled.RuledRefusal.{RuledRefusal}
 use Rattle.c_calls.specs.declared.ruled.RuledRefusal.TheVariants.{Mode, Start, TooLarge, Room, NoDetour}
 use Rattle.c_calls.specs.Refusals.{refusal_status}
 use Rattle.c_calls.specs.Numbers.{bits_numbered}
-use Rattle.c_calls.specs.Hooks.{start_numbered, detour_refusal, no_detour, cause_report, detour_report}
+use Rattle.c_calls.specs.Hooks.{start_numbered, detour_refusal, no_detour, offset_or, cause_report, detour_report}
 use Rattle.c_calls.specs.Looking.{end_number, flat_view}
 
 -- ---- the answer
 
--- whether whole sight is asked for, by a number: 0 does not ask for it
-abbrev pub asks_whole : ℕ → Bool
-asks_whole n = not (n == 0)
+-- the rules, by what becomes of the function's own start and the bits of a number: 1 asks for whole sight, 2 for own return addresses, 4 for no call
+unfoldable pub rules_numbered : Option StartTarget → ℕ → Option HookRules
+rules_numbered None n = None
+rules_numbered (Some start) n =
+    if nat_lt n 8 then Some (record { start = start; whole = n % 2 == 1; returns = n / 2 % 2 == 1; calls = n / 4 == 0 }) else None
 
 -- the detour with what is seen, or why there is none: more than 1,048,576 bytes, or a cause of the rules
-abbrev pub IsRuledIn : Bits → ℕ → List ℕ → ℕ → ℕ → StartTarget → List ℕ → Bool → Result SeenDetour RuledRefusal → Type 0
-IsRuledIn bits ip code to place start entries whole (Ok seen) = (length code ≤ 1048576) × IsRuledAnswer bits ip code to place start entries whole (Ok seen)
-IsRuledIn bits ip code to place start entries whole (Err TooLarge) = 1048576 < length code
-IsRuledIn bits ip code to place start entries whole (Err (NoDetour cause)) =
-    (length code ≤ 1048576) × IsRuledAnswer bits ip code to place start entries whole (Err cause)
-IsRuledIn bits ip code to place start entries whole (Err Mode) = ⊥
-IsRuledIn bits ip code to place start entries whole (Err Start) = ⊥
-IsRuledIn bits ip code to place start entries whole (Err Room) = ⊥
+abbrev pub IsRuledIn : Bits → ℕ → List ℕ → ℕ → ℕ → List ℕ → HookRules → Result SeenDetour RuledRefusal → Type 0
+IsRuledIn bits ip code to place entries rules (Ok seen) = (length code ≤ 1048576) × IsRuledAnswer bits ip code to place entries rules (Ok seen)
+IsRuledIn bits ip code to place entries rules (Err TooLarge) = 1048576 < length code
+IsRuledIn bits ip code to place entries rules (Err (NoDetour cause)) =
+    (length code ≤ 1048576) × IsRuledAnswer bits ip code to place entries rules (Err cause)
+IsRuledIn bits ip code to place entries rules (Err Mode) = ⊥
+IsRuledIn bits ip code to place entries rules (Err Start) = ⊥
+IsRuledIn bits ip code to place entries rules (Err Room) = ⊥
 
--- what a detour by rules answers, where the numbers of the mode and of what becomes of the start name one each
-abbrev pub IsRuledAnswerBy : Option Bits → Option StartTarget → ℕ → List ℕ → ℕ → ℕ → List ℕ → Bool → Result SeenDetour RuledRefusal → Type 0
-IsRuledAnswerBy None start ip code to place entries whole answer = answer ≡ Err Mode
-IsRuledAnswerBy (Some bits) None ip code to place entries whole answer = answer ≡ Err Start
-IsRuledAnswerBy (Some bits) (Some start) ip code to place entries whole answer = IsRuledIn bits ip code to place start entries whole answer
+-- what a detour by rules answers, where the numbers of the mode and of the rules name some
+abbrev pub IsRuledAnswerBy : Option Bits → Option HookRules → ℕ → List ℕ → ℕ → ℕ → List ℕ → Result SeenDetour RuledRefusal → Type 0
+IsRuledAnswerBy None rules ip code to place entries answer = answer ≡ Err Mode
+IsRuledAnswerBy (Some bits) None ip code to place entries answer = answer ≡ Err Start
+IsRuledAnswerBy (Some bits) (Some rules) ip code to place entries answer = IsRuledIn bits ip code to place entries rules answer
 
 -- ---- the moved instructions
 
@@ -64,6 +67,7 @@ ruled_within room other third (Err e) = Err e
 abbrev pub rule_refusal : RuleError → Refusal
 rule_refusal (rule.Detour cause) = detour_refusal cause
 rule_refusal rule.Overlaps = why.Overlaps
+rule_refusal (rule.Calls at) = why.Calls
 rule_refusal (rule.Entered from target) = why.Entered
 rule_refusal (rule.Unseen at end) = why.Unseen
 
@@ -117,6 +121,7 @@ no_view = record {
 abbrev pub rule_report : RuleError → FlatDetour
 rule_report (rule.Detour cause) = cause_report cause
 rule_report rule.Overlaps = no_detour
+rule_report (rule.Calls at) = record no_detour { at = at }
 rule_report (rule.Entered from target) = record no_detour { at = from; target = target }
 rule_report (rule.Unseen at end) = record no_detour { at = at; target = end_number end }
 
@@ -125,16 +130,22 @@ abbrev pub refusal_report : RuledRefusal → FlatDetour
 refusal_report (NoDetour cause) = rule_report cause
 refusal_report _ = no_detour
 
--- those of the detour, what is seen, and how many instructions are moved, also where a room does not hold them; or those of the refusal
+-- those of the detour, what is seen, how many instructions are moved, and the first call among them or the end of what is overwritten, also where a room
+-- does not hold them; or those of the refusal
 abbrev pub ruled_report : Result SeenDetour RuledRefusal → FlatHook
-ruled_report (Ok seen) = record { detour = detour_report seen.detour; view = flat_view seen.view; moved = length seen.detour.starts }
-ruled_report (Err e) = record { detour = refusal_report e; view = no_view; moved = 0 }
+ruled_report (Ok seen) = record {
+  detour = detour_report seen.detour;
+  view = flat_view seen.view;
+  moved = length seen.detour.starts;
+  call = offset_or seen.detour.call seen.detour.taken;
+}
+ruled_report (Err e) = record { detour = refusal_report e; view = no_view; moved = 0; call = 0 }
 
 -- what the call says and leaves
-pub record IsRuledCall (bits ip : ℕ) (code : List ℕ) (to place start whole : ℕ) (entries patch patch' trampoline trampoline' : List ℕ)
+pub record IsRuledCall (bits ip : ℕ) (code : List ℕ) (to place start rules : ℕ) (entries patch patch' trampoline trampoline' : List ℕ)
     (moved moved' : List FlatMovedStart) (report : FlatHook) (said : ℤ) : Type 0 where
   pub answer : Result SeenDetour RuledRefusal
-  pub is : IsRuledAnswerBy (bits_numbered bits) (start_numbered start) ip code to place entries (asks_whole whole) answer
+  pub is : IsRuledAnswerBy (bits_numbered bits) (rules_numbered (start_numbered start) rules) ip code to place entries answer
   pub said_is : said ≡ ruled_said (ruled_within (length patch) (length trampoline) (length moved) answer)
   pub patch_is : patch' ≡ patch_left patch (ruled_within (length patch) (length trampoline) (length moved) answer)
   pub trampoline_is : trampoline' ≡ trampoline_left trampoline (ruled_within (length patch) (length trampoline) (length moved) answer)

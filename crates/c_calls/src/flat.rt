@@ -362,4 +362,6 @@ pub struct FlatHook {
     pub view: FlatView,
     /// How many instructions are moved; 0 without a detour.
     pub moved: u64,
+    /// The offset of the first call that is moved as it is, or the end of what is overwritten; 0 without a detour.
+    pub call: u64,
 }

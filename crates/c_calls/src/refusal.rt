@@ -64,6 +64,8 @@ pub(crate) enum Refusal {
     Unseen,
     /// The trampoline would lie in the given bytes of the function.
     Overlaps,
+    /// A moved call would hand on an address in the trampoline.
+    Calls,
     /// The instruction has no plain spelling there: the condition that fails, and the operand that fails it, 0 for a condition of the whole instruction.
     Spelling { why: NoSpelling, operand: u8 },
 }
@@ -120,6 +122,7 @@ fn refusal_number(why: Refusal) -> u16
         Refusal::NotLive => 27,
         Refusal::Unseen => 28,
         Refusal::Overlaps => 29,
+        Refusal::Calls => 30,
         Refusal::Spelling { why, operand } => condition_number(why) + u16::from(operand),
     }
 }

@@ -2,7 +2,7 @@
 
 ghost use Rattle.std.specs.Prelude.{◌≡◌, ◌≤◌, ◌<◌, ◌++◌, length, drop, IfOk};
 ghost use Rattle.c_calls.specs.Numbers.{bits_numbered};
-ghost use Rattle.c_calls.specs.Hooks.{start_numbered};
+ghost use Rattle.c_calls.specs.Hooks.{start_numbered, offset_or};
 ghost use Rattle.c_calls.specs.Ruled as spec;
 
 use crate::buffers::write_front;
@@ -13,7 +13,7 @@ use crate::hooks::{
 use crate::numbers::bits_numbered;
 use crate::refusal::{Refusal, refusal_status};
 use crate::sight::{end_number, flat_view};
-use detour::{RuleError, SeenDetour, detour_with};
+use detour::{HookRules, RuleError, SeenDetour, detour_with};
 use std::alloc::Global;
 
 /// Why no detour is made.
@@ -21,7 +21,7 @@ use std::alloc::Global;
 pub(crate) enum RuledRefusal {
     /// The mode is none.
     Mode,
-    /// The number of what becomes of the function's own start is neither of the two.
+    /// The number of what becomes of the function's own start is neither of the two, or the rules have a bit without a meaning.
     Start,
     /// There are more than 1,048,576 bytes.
     TooLarge,
@@ -38,6 +38,7 @@ fn rule_refusal(why: RuleError) -> Refusal
     match why {
         RuleError::Detour(cause) => detour_refusal(cause),
         RuleError::Overlaps => Refusal::Overlaps,
+        RuleError::Calls { .. } => Refusal::Calls,
         RuleError::Entered { .. } => Refusal::Entered,
         RuleError::Unseen { .. } => Refusal::Unseen,
     }
@@ -77,6 +78,10 @@ fn rule_report(why: RuleError) -> FlatDetour
     match why {
         RuleError::Detour(cause) => cause_report(cause),
         RuleError::Overlaps => NOTHING,
+        RuleError::Calls { at } => FlatDetour {
+            at: u64::from(at),
+            ..NOTHING
+        },
         RuleError::Entered { from, target } => FlatDetour {
             at: from as u64,
             target: target as u64,
@@ -100,6 +105,16 @@ fn refusal_report(why: RuledRefusal) -> FlatDetour
     }
 }
 
+/// The offset of a call, or the end of what is overwritten if there is none.
+fn call_or(call: Option<u32>, end: u64) -> u64
+    ensures { result ≡ offset_or call end }
+{
+    match call {
+        Some(at) => u64::from(at),
+        None => end,
+    }
+}
+
 /// Returns the report of a result.
 fn ruled_report(answer: &Result<SeenDetour, RuledRefusal>) -> FlatHook
     ensures { result ≡ spec.ruled_report answer.now }
@@ -109,16 +124,40 @@ fn ruled_report(answer: &Result<SeenDetour, RuledRefusal>) -> FlatHook
             detour: detour_report(&seen.detour),
             view: flat_view(&seen.view),
             moved: seen.detour.starts().len() as u64,
+            call: call_or(seen.detour.call(), seen.detour.taken() as u64),
         },
         Err(why) => FlatHook {
             detour: refusal_report(*why),
             view: NO_VIEW,
             moved: 0,
+            call: 0,
         },
     }
 }
 
-/// The detour of a function by the rules, by the numbers of a mode and of what becomes of its start.
+/// The rules, by the number of what becomes of the function's own start and the bits: 1 for whole sight, 2 for own return addresses, 4 for no calls.
+#[tactic(auto, unfolding(crate::specs::Ruled::rules_numbered))]
+fn rules_numbered(start: u32, rules: u32) -> Option<HookRules>
+    ensures { result ≡ spec.rules_numbered (start_numbered start) rules }
+{
+    match start_numbered(start) {
+        None => None,
+        Some(start) => {
+            if rules < 8 {
+                Some(HookRules {
+                    start,
+                    whole: rules % 2 == 1,
+                    returns: rules / 2 % 2 == 1,
+                    calls: rules / 4 == 0,
+                })
+            } else {
+                None
+            }
+        }
+    }
+}
+
+/// The detour of a function by the rules, by the numbers of a mode, of what becomes of its start, and of the rules.
 fn ruled_of(
     alloc: Global,
     bits: u32,
@@ -127,21 +166,21 @@ fn ruled_of(
     to: u64,
     place: u64,
     start: u32,
+    rules: u32,
     entries: &[u32],
-    whole: bool,
 ) -> Result<SeenDetour, RuledRefusal>
-    ensures { spec.IsRuledAnswerBy (bits_numbered bits) (start_numbered start) ip code.now to place entries.now whole result }
+    ensures { spec.IsRuledAnswerBy (bits_numbered bits) (spec.rules_numbered (start_numbered start) rules) ip code.now to place entries.now result }
 {
     let Some(bits) = bits_numbered(bits) else {
         return Err(RuledRefusal::Mode);
     };
-    let Some(start) = start_numbered(start) else {
+    let Some(rules) = rules_numbered(start, rules) else {
         return Err(RuledRefusal::Start);
     };
     if code.len() > MOST {
         return Err(RuledRefusal::TooLarge);
     }
-    match detour_with(alloc, bits, ip, code, to, place, start, entries, whole) {
+    match detour_with(alloc, bits, ip, code, to, place, entries, rules) {
         Ok(seen) => Ok(seen),
         Err(cause) => Err(RuledRefusal::NoDetour(cause)),
     }
@@ -213,19 +252,17 @@ pub fn make_detour_with(
     to: u64,
     place: u64,
     start: u32,
-    whole: u32,
+    rules: u32,
     entries: &[u32],
     patch: &mut [u8],
     trampoline: &mut [u8],
     moved: &mut [FlatMovedStart],
     report: &mut FlatHook,
 ) -> i32
-    ensures { spec.IsRuledCall bits ip code.now to place start whole entries.now patch.old patch.new trampoline.old trampoline.new moved.old moved.new
+    ensures { spec.IsRuledCall bits ip code.now to place start rules entries.now patch.old patch.new trampoline.old trampoline.new moved.old moved.new
         report.new result }
 {
-    let answer = ruled_of(
-        alloc, bits, ip, code, to, place, start, entries, whole != 0,
-    );
+    let answer = ruled_of(alloc, bits, ip, code, to, place, start, rules, entries);
     *report = ruled_report(&answer);
     put_ruled(&answer, patch, trampoline, moved)
 }

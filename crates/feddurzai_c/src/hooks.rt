@@ -73,19 +73,21 @@ pub extern "C" fn feddurzai_look(
     sight::look(alloc, bits, ip, code, entries, taken, moved, start, view)
 }
 
-/// Makes the detour that `feddurzai_detour` makes, looks at the function as `feddurzai_look` does, and refuses the detour if control is seen to enter what it
-/// overwrites. With any `whole` but 0 it also refuses it if not all of the function is seen. It returns 0.
+/// Makes a detour under rules: as `feddurzai_detour` does, but an address at RIP or EIP stays the same even if it lies in what is overwritten; the
+/// function is looked at as `feddurzai_look` does, and the detour is refused if control is seen to enter what it overwrites. It returns 0.
 ///
 /// `entries` are further offsets at which control comes in. With `start` 0 a way back to the start from behind the overwritten bytes enters too, unless it is a
-/// call. `moved` receives the offsets in the function at which the moved instructions begin, and those of their images in the trampoline, in order. `report`
-/// receives the report of the detour, what is seen, and the number of the moved instructions, also if a buffer is too small. After another refusal it has the
-/// numbers of that; the others are 0.
+/// call. `rules` is the sum of 1, to refuse a function of which not everything is seen; 2, to let a near CALL that is the last moved instruction push its own
+/// return address and jump, where it can, so that nothing jumps back; and 4, to refuse any other moved call, which hands an address in the trampoline to what
+/// it calls. `moved` receives the offsets in the function at which the moved instructions begin, and those of their images in the trampoline, in order.
+/// `report` receives the report of the detour, what is seen, the number of the moved instructions, and the offset of the first call that is moved as it is, or
+/// else the number of bytes that are overwritten; also if a buffer is too small. After another refusal it has the numbers of that; the others are 0.
 ///
-/// Refusals: those of `feddurzai_detour` before `Room`; `Overlaps` if the trampoline would lie in the bytes of the function; `Entered` with the least entry
-/// within the overwritten bytes after the first one, as both offsets, or with the first offset from which control enters them and the one that it enters;
-/// `Unseen` with the first offset at which sight ends and why (1, 2, 3 as in `feddurzai_look`); and `Room`. The first that applies is returned; `Memory` may
-/// replace any of those after `TooLarge`. Buffers are unchanged after what is written and after a refusal. The call allocates from the C library, and frees
-/// what it took.
+/// Refusals: those of `feddurzai_detour` before `Room`, `Start` also if `rules` is above 7; `Overlaps` if the trampoline would lie in the bytes of the function;
+/// `Calls` with the offset of the call; `Entered` with the least entry within the overwritten bytes after the first one, as both offsets, or with the first
+/// offset from which control enters them and the one that it enters; `Unseen` with the first offset at which sight ends and why (1, 2, 3 as in
+/// `feddurzai_look`); and `Room`. The first that applies is returned; `Memory` may replace any of those after `TooLarge`. Buffers are unchanged after what is
+/// written and after a refusal. The call allocates from the C library, and frees what it took.
 #[unsafe(no_mangle)]
 pub extern "C" fn feddurzai_detour_with(
     alloc: Global,
@@ -95,17 +97,17 @@ pub extern "C" fn feddurzai_detour_with(
     to: u64,
     place: u64,
     start: u32,
-    whole: u32,
+    rules: u32,
     entries: &[u32],
     patch: &mut [u8],
     trampoline: &mut [u8],
     moved: &mut [FlatMovedStart],
     report: &mut FlatHook,
 ) -> i32
-    ensures { IsRuledCall bits ip code.now to place start whole entries.now patch.old patch.new trampoline.old trampoline.new moved.old moved.new
+    ensures { IsRuledCall bits ip code.now to place start rules entries.now patch.old patch.new trampoline.old trampoline.new moved.old moved.new
         report.new result }
 {
     ruled::make_detour_with(
-        alloc, bits, ip, code, to, place, start, whole, entries, patch, trampoline, moved, report,
+        alloc, bits, ip, code, to, place, start, rules, entries, patch, trampoline, moved, report,
     )
 }

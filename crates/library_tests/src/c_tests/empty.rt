@@ -164,6 +164,7 @@ pub(crate) const NO_HOOK: FlatHook = FlatHook {
     detour: NO_DETOUR,
     view: NO_VIEW,
     moved: 9,
+    call: 9,
 };
 
 pub(crate) const NO_STEP: FlatStep = FlatStep {
