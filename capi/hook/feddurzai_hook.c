@@ -1,6 +1,6 @@
 /*
  * Hooks in the running program: see feddurzai_hook.h and docs/hooks.md. Nothing in this file is proved. The bytes of
- * patch and trampoline come from feddurzai_detour, the places of the trampolines from feddurzai_region_reserve.
+ * patch and trampoline come from feddurzai_detour_with, the places of the trampolines from feddurzai_region_reserve.
  *
  * Order of this file: the parts of a hook; the table; sizes of functions; pages; writes; the two signal handlers;
  * asking the threads; a change; the calls of the header.
@@ -86,7 +86,7 @@ static uint64_t distance(uint64_t a, uint64_t b)
 
 /* ---- the parts of a hook ------------------------------------------------------------------------------------ */
 
-/* A taken instruction, or one behind them. */
+/* A taken instruction. */
 struct seen {
     feddurzai_instr instr;
     feddurzai_about about;
@@ -110,20 +110,6 @@ static int is_call(const struct seen *seen)
     return feddurzai_name(seen->instr.code, name, sizeof name) > 0 && strncmp(name, "call", 4) == 0;
 }
 
-/* control never continues behind it */
-static int is_end(const struct seen *seen)
-{
-    switch (seen->about.flow) {
-    case FEDDURZAI_FLOW_JUMP:
-    case FEDDURZAI_FLOW_INDIRECT_JUMP:
-    case FEDDURZAI_FLOW_RETURN:
-    case FEDDURZAI_FLOW_EXCEPTION:
-        return 1;
-    default:
-        return 0;
-    }
-}
-
 /* the distance from the function's start to an address, in the address space of the mode */
 static uint64_t offset_of(uint32_t bits, uint64_t ip, uint64_t address)
 {
@@ -137,123 +123,61 @@ static int32_t refuse(feddurzai_hook_parts *parts, int32_t said, uint64_t at, ui
     return said;
 }
 
-/* checks the taken instructions, and notes where each begins */
+/* checks the taken instructions */
 static int32_t check_taken(uint32_t bits, uint64_t ip, const uint8_t *code, size_t len, uint32_t flags,
     feddurzai_hook_parts *parts)
 {
-    uint64_t at = 0, taken = parts->detour.taken, to;
     struct seen seen;
-    while (at < taken && see(bits, ip, code, len, at, &seen)) {
-        parts->taken_at[parts->count++] = (uint8_t)at;
+    int k;
+    for (k = 0; k < parts->count; k++) {
+        uint64_t at = parts->taken_at[k], to;
+        if (!see(bits, ip, code, len, at, &seen))
+            continue;
         if (is_call(&seen) && !(flags & FEDDURZAI_HOOK_ALLOW_CALLS))
             return refuse(parts, FEDDURZAI_HOOK_CALL, at, 0);
         to = offset_of(bits, ip, seen.about.ip_address);
-        if (seen.about.has_ip_address && to < taken && (to != 0 || !(flags & FEDDURZAI_HOOK_ALLOW_LOOPS)))
+        if (seen.about.has_ip_address && to < parts->detour.taken && (to != 0 || !(flags & FEDDURZAI_HOOK_ALLOW_LOOPS)))
             return refuse(parts, FEDDURZAI_HOOK_OWN_BYTES, at, to);
-        if (is_end(&seen))
-            break;
-        at += seen.len;
     }
     return 0;
 }
 
-/* checks what control reaches behind the taken instructions, and how far it can be followed */
-static int32_t check_flow(uint32_t bits, uint64_t ip, const uint8_t *code, size_t len, uint32_t flags,
-    feddurzai_hook_parts *parts)
+/* a refusal of the library by the statuses of this file, where it has one of its own */
+static int32_t own_status(int32_t said, const feddurzai_detour_report *report)
 {
-    static const uint32_t start[] = {0};
-    uint32_t *starts = malloc(len * (2 * sizeof *starts + 1)), *leaders = starts + len;
-    uint8_t *kinds = (uint8_t *)(leaders + len);
-    int32_t n, k, said = 0;
-    struct seen seen;
-    parts->unseen_at = len;
-    if (starts == NULL)
-        return FEDDURZAI_HOOK_NO_MEMORY;
-    n = feddurzai_flow_from(bits, ip, code, len, start, 1, starts, len, leaders, len, kinds, len);
-    if (n < 0)
-        said = n;
-    for (k = 0; k < n && said == 0; k++) {
-        uint64_t at = starts[k];
-        int ends = kinds[k] == FEDDURZAI_KIND_INVALID || kinds[k] == FEDDURZAI_KIND_TOO_SHORT;
-        if ((ends || kinds[k] == FEDDURZAI_FLOW_INDIRECT_JUMP) && at < parts->unseen_at)
-            parts->unseen_at = at;
-        if (ends || at < parts->detour.taken || (flags & FEDDURZAI_HOOK_ALLOW_LOOPS))
-            continue;
-        if (!see(bits, ip, code, len, at, &seen))
-            continue;
-        if (seen.about.has_target && offset_of(bits, ip, seen.about.target) == 0 && !is_call(&seen))
-            said = refuse(parts, FEDDURZAI_HOOK_LOOP, at, 0);
-    }
-    free(starts);
-    if (said == 0 && (flags & FEDDURZAI_HOOK_NEED_SIGHT) && parts->unseen_at < len)
-        said = refuse(parts, FEDDURZAI_HOOK_UNSEEN, parts->unseen_at, 0);
-    return said;
-}
-
-/* the instructions of two pieces of code begin at the same offsets and are of the same rows */
-static int same_rows(uint32_t bits, uint64_t ip, const uint8_t *a, const uint8_t *b, size_t len)
-{
-    size_t at = 0;
-    while (at < len) {
-        feddurzai_instr one, other;
-        int32_t n = feddurzai_decode(bits, ip + at, a + at, len - at, &one);
-        if (n <= 0 || n != feddurzai_decode(bits, ip + at, b + at, len - at, &other) || one.code != other.code)
-            return 0;
-        at += (size_t)n;
-    }
-    return 1;
-}
-
-/*
- * Finds where each taken instruction is in the trampoline: moves the same instructions by feddurzai_move, whose map
- * says it, and compares. Only slots and the displacements to them may differ, since a jump back precedes those of the
- * trampoline.
- */
-static void find_places(uint32_t bits, uint64_t ip, const uint8_t *code, size_t len, uint64_t place, uint32_t flags,
-    feddurzai_hook_parts *parts)
-{
-    feddurzai_moved map[FEDDURZAI_MAX_PATCH];
-    feddurzai_move_report moved;
-    uint8_t out[FEDDURZAI_HOOK_MAX_TRAMPOLINE];
-    struct seen last;
-    uint64_t end = parts->taken_at[parts->count - 1];
-    int32_t said;
-    int k;
-    if (!see(bits, ip, code, len, end, &last))
-        return;
-    end += last.len;
-    said = (flags & FEDDURZAI_HOOK_ALLOW_LOOPS ? feddurzai_move_outside : feddurzai_move)(bits, ip, code, (size_t)end,
-        place, out, sizeof out, map, FEDDURZAI_MAX_PATCH, &moved);
-    if (said < 0 || moved.count != parts->count || moved.code_bytes > parts->detour.jump_back
-        || !same_rows(bits, place, out, parts->trampoline, (size_t)moved.code_bytes))
-        return;
-    for (k = 0; k < parts->count; k++)
-        parts->place_at[k] = (uint8_t)(map[k].new_ip - place);
-    parts->placed = 1;
+    if (said == FEDDURZAI_ENTERED && report->target == 0)
+        return FEDDURZAI_HOOK_LOOP;
+    return said == FEDDURZAI_UNSEEN ? FEDDURZAI_HOOK_UNSEEN : said;
 }
 
 int32_t feddurzai_hook_make(uint32_t bits, uint64_t ip, const uint8_t *code, size_t len, uint64_t to, uint64_t place,
     uint32_t flags, feddurzai_hook_parts *parts)
 {
     uint32_t start = flags & FEDDURZAI_HOOK_ALLOW_LOOPS ? FEDDURZAI_START_HOOKED : FEDDURZAI_START_MOVED;
+    uint32_t whole = flags & FEDDURZAI_HOOK_NEED_SIGHT;
+    feddurzai_moved_start moved[FEDDURZAI_MAX_PATCH];
+    feddurzai_hook_report report;
     int32_t said;
     if (parts == NULL)
         return FEDDURZAI_NULL;
     memset(parts, 0, sizeof *parts);
     parts->place = place;
-    said = feddurzai_detour(bits, ip, code, len, to, place, start, parts->patch, sizeof parts->patch, parts->trampoline,
-        sizeof parts->trampoline, &parts->detour);
+    said = feddurzai_detour_with(bits, ip, code, len, to, place, start, whole, NULL, 0, parts->patch, sizeof parts->patch,
+        parts->trampoline, sizeof parts->trampoline, moved, FEDDURZAI_MAX_PATCH, &report);
+    if (said == FEDDURZAI_NULL)
+        return said;
+    parts->detour = report.detour;
     if (said < 0)
-        return refuse(parts, said, parts->detour.at, parts->detour.target);
+        return refuse(parts, own_status(said, &report.detour), report.detour.at, report.detour.target);
+    parts->unseen_at = report.view.sight == FEDDURZAI_SIGHT_WHOLE ? len : report.view.sight_at;
     memcpy(parts->before, code, (size_t)parts->detour.taken);
+    for (; parts->count < report.moved; parts->count++) {
+        parts->taken_at[parts->count] = (uint8_t)moved[parts->count].start;
+        parts->place_at[parts->count] = (uint8_t)moved[parts->count].place;
+    }
     if (code[0] == INT3)
         return refuse(parts, FEDDURZAI_HOOK_BREAKPOINT, 0, 0);
-    said = check_taken(bits, ip, code, len, flags, parts);
-    if (said == 0)
-        said = check_flow(bits, ip, code, len, flags, parts);
-    if (said == 0)
-        find_places(bits, ip, code, len, place, flags, parts);
-    return said;
+    return check_taken(bits, ip, code, len, flags, parts);
 }
 
 /* ---- the table ---------------------------------------------------------------------------------------------- */
@@ -756,7 +680,7 @@ static enum answer move_out(greg_t *rip)
         uint64_t at = state == TURNING_ON || state == ON ? inside_of(hook, (uint64_t)*rip) : 0;
         if (at == 0)
             continue;
-        for (k = 1; k < hook->parts.count && hook->parts.placed; k++)
+        for (k = 1; k < hook->parts.count; k++)
             if (hook->parts.taken_at[k] == at) {
                 *rip = (greg_t)(hook->parts.place + hook->parts.place_at[k]);
                 atomic_fetch_add(&table.moved, 1);
@@ -1426,8 +1350,6 @@ static int32_t install(const struct job *job, void *original, feddurzai_hook_par
         return said;
     if (overlaps(hook, job->target, parts->detour.taken))
         said = FEDDURZAI_HOOK_OVERLAPS;
-    else if (parts->count > 1 && !parts->placed && !(job->flags & FEDDURZAI_HOOK_ALONE))
-        said = FEDDURZAI_HOOK_UNPLACED;
     else if (parts->place != *kept)
         said = write_trampoline(parts);
     if (said < 0) {
@@ -1600,6 +1522,7 @@ const char *feddurzai_hook_error_text(int32_t said)
     case FEDDURZAI_SMALL: return "the function is shorter than the jump";
     case FEDDURZAI_ENDS: return "control ends within the overwritten bytes, and other code follows there";
     case FEDDURZAI_ENTERED: return "control may enter the overwritten bytes after the first one";
+    case FEDDURZAI_OVERLAPS: return "the trampoline would lie in the bytes of the function";
     case FEDDURZAI_HOOK_BAD_ARGUMENT: return "target or replacement is NULL, or both are the same";
     case FEDDURZAI_HOOK_NO_SYMBOL: return "no loaded file has a function of this name";
     case FEDDURZAI_HOOK_NO_SIZE: return "no symbol says how long the function is: give its size";
@@ -1619,7 +1542,6 @@ const char *feddurzai_hook_error_text(int32_t said)
     case FEDDURZAI_HOOK_NO_PROC: return "/proc is not mounted, so the threads are not known";
     case FEDDURZAI_HOOK_TRAP_BLOCKED: return "a thread blocks SIGTRAP";
     case FEDDURZAI_HOOK_SIGNAL_USED: return "the program uses the signal that asks the threads where they are";
-    case FEDDURZAI_HOOK_UNPLACED: return "the place of an overwritten instruction in the trampoline is not known";
     case FEDDURZAI_HOOK_NO_MEMORY: return "there is no memory";
     default: return said < 0 ? "an unknown status" : "no error";
     }

@@ -1,5 +1,5 @@
 /*
- * Hooks in the running program, over feddurzai_detour: each call of a function goes to a replacement, which can call
+ * Hooks in the running program, over feddurzai_detour_with: each call of a function goes to a replacement, which can call
  * the original. Linux on x86-64 with glibc. Compile feddurzai_hook.c with the program, as C11, and link libfeddurzai.
  *
  *     static int (*original)(const char *);
@@ -22,7 +22,7 @@
  * Signals: SIGTRAP, for calls that arrive during a change; every other SIGTRAP goes to the handler that the program
  * has. FEDDURZAI_HOOK_SIGNAL, a real-time signal that must be free: it asks a thread where it is.
  *
- * The calls return 0 or a negative status: one of those below, or one of feddurzai_detour, such as FEDDURZAI_ENTERED.
+ * The calls return 0 or a negative status: one of those below, or one of feddurzai_detour_with, as FEDDURZAI_ENTERED.
  * After a negative status nothing has changed, with one exception at FEDDURZAI_HOOK_PROTECTED.
  */
 #ifndef FEDDURZAI_HOOK_H
@@ -61,7 +61,8 @@ enum {
     FEDDURZAI_HOOK_CALL = -1008,            /* a CALL is among the taken instructions: at */
     FEDDURZAI_HOOK_OWN_BYTES = -1009,       /* an operand at RIP or EIP names the taken bytes: at, target */
     FEDDURZAI_HOOK_LOOP = -1010,            /* a branch behind the taken instructions goes to the start: at */
-    FEDDURZAI_HOOK_UNSEEN = -1011,          /* control cannot be followed from this offset on: at */
+    FEDDURZAI_HOOK_UNSEEN = -1011,          /* control cannot be followed from this offset on: at; and why: target,
+                                               FEDDURZAI_SIGHT_NOT_READ .. */
     /* of the process */
     FEDDURZAI_HOOK_NO_PAGE = -1012,         /* no memory for the trampoline, or none that may be executed */
     FEDDURZAI_HOOK_PROTECTED = -1013,       /* the code could not be written. If this happens between two writes, calls
@@ -73,7 +74,6 @@ enum {
     FEDDURZAI_HOOK_TRAP_BLOCKED = -1018,    /* a thread blocks SIGTRAP: a call of it during the change would end the
                                                program */
     FEDDURZAI_HOOK_SIGNAL_USED = -1019,     /* the program has a handler of FEDDURZAI_HOOK_SIGNAL */
-    FEDDURZAI_HOOK_UNPLACED = -1020,        /* the place of a taken instruction in the trampoline is not known */
     FEDDURZAI_HOOK_NO_MEMORY = -1021        /* malloc or mmap returned no memory */
 };
 
@@ -98,29 +98,30 @@ enum {
  * first byte, offsets of the trampoline from `place`.
  */
 typedef struct feddurzai_hook_parts {
-    feddurzai_detour_report detour;     /* as feddurzai_detour reports it: .taken, .form, .bytes, .jump_back, .. */
+    feddurzai_detour_report detour;     /* as feddurzai_detour_with reports it: .taken, .form, .bytes, .jump_back, .. */
     uint64_t place;                     /* the address of the trampoline */
     uint64_t at, target;                /* of a refusal: the offsets, or as in `detour` */
-    uint64_t unseen_at;                 /* the first offset from which control cannot be followed: no instruction begins
-                                           there, the bytes end, or it is an indirect jump. If none, the size */
+    uint64_t unseen_at;                 /* of a hook: the first offset from which control cannot be followed, since no
+                                           instruction of the table begins there, the bytes end there or behind it, or
+                                           it is an indirect jump. If none, the size */
     uint8_t patch[FEDDURZAI_MAX_PATCH];                 /* .taken bytes */
     uint8_t before[FEDDURZAI_MAX_PATCH];                /* the function's own bytes there */
     uint8_t trampoline[FEDDURZAI_HOOK_MAX_TRAMPOLINE];  /* .bytes bytes */
     uint8_t count;                      /* the number of taken instructions, without padding */
-    uint8_t placed;                     /* 1 if place_at is known: then it is exact. Else 0 */
     uint8_t taken_at[FEDDURZAI_MAX_PATCH];              /* their offsets in the function */
     uint8_t place_at[FEDDURZAI_MAX_PATCH];              /* and in the trampoline */
 } feddurzai_hook_parts;
 
 /*
- * Makes the parts of a hook by feddurzai_detour, and checks what that call leaves to its caller. Writes nothing but
- * *parts, and works for code of any mode and any process.
+ * Makes the parts of a hook by feddurzai_detour_with, and checks what that call leaves to its caller. Writes nothing
+ * but *parts, and works for code of any mode and any process.
  *
- *  - bits, ip, code, len, to, place: as in feddurzai_detour. `code` has the program's own bytes.
+ *  - bits, ip, code, len, to, place: as in feddurzai_detour_with. `code` has the program's own bytes.
  *  - flags: FEDDURZAI_HOOK_ALLOW_CALLS, _ALLOW_LOOPS and _NEED_SIGHT count.
  *
- * Returns 0, or a status of feddurzai_detour, or FEDDURZAI_HOOK_BREAKPOINT, _CALL, _OWN_BYTES, _LOOP, _UNSEEN,
- * _NO_MEMORY; the first that applies.
+ * Returns 0, or a status of feddurzai_detour_with, but FEDDURZAI_HOOK_LOOP for FEDDURZAI_ENTERED with the target 0, and
+ * FEDDURZAI_HOOK_UNSEEN for FEDDURZAI_UNSEEN; then FEDDURZAI_HOOK_BREAKPOINT, or _CALL and _OWN_BYTES for the first
+ * taken instruction to which one applies.
  */
 int32_t feddurzai_hook_make(uint32_t bits, uint64_t ip, const uint8_t *code, size_t len, uint64_t to, uint64_t place,
     uint32_t flags, feddurzai_hook_parts *parts);
@@ -185,7 +186,7 @@ int32_t feddurzai_hook_apply(void);
 /* How many calls met the INT3 of a change so far, and how many threads were moved out of bytes that it overwrote. */
 void feddurzai_hook_counts(uint64_t *traps, uint64_t *moved);
 
-/* Returns a sentence in English, without a full stop, for a status of these calls or of feddurzai_detour. */
+/* Returns a sentence in English, without a full stop, for a status of these calls or of feddurzai_detour_with. */
 const char *feddurzai_hook_error_text(int32_t said);
 
 #ifdef __cplusplus

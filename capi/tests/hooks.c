@@ -44,11 +44,17 @@ struct code {
 static const struct code codes[] = {
     /* EVEX, which no row has, hides a branch to offset 3; NOPs there do not */
     {CODE(64, "\x48\x8b\x07\x48\x89\xc1\x62\xf1\x7c\x48\x28\xc1\xeb\xf5\xc3"), 0, 0, 0, 0, 6},
-    {CODE(64, "\x48\x8b\x07\x48\x89\xc1\x62\xf1\x7c\x48\x28\xc1\xeb\xf5\xc3"), FEDDURZAI_HOOK_NEED_SIGHT, FEDDURZAI_HOOK_UNSEEN, 6, 0, 0},
+    {CODE(64, "\x48\x8b\x07\x48\x89\xc1\x62\xf1\x7c\x48\x28\xc1\xeb\xf5\xc3"), FEDDURZAI_HOOK_NEED_SIGHT, FEDDURZAI_HOOK_UNSEEN, 6,
+        FEDDURZAI_SIGHT_NOT_READ, 0},
     {CODE(64, "\x48\x8b\x07\x48\x89\xc1\x90\x90\x90\x90\x90\x90\xeb\xf5\xc3"), 0, FEDDURZAI_ENTERED, 12, 3, 0},
     /* a jump table, and code behind it that goes to offset 3 */
     {CODE(64, "\x48\x8b\x07\xff\x24\xc5\x00\x20\x00\x00\x48\xff\xc7\xeb\xf4\xc3"), 0, 0, 0, 0, 3},
-    {CODE(64, "\x48\x8b\x07\xff\x24\xc5\x00\x20\x00\x00\x48\xff\xc7\xeb\xf4\xc3"), FEDDURZAI_HOOK_NEED_SIGHT, FEDDURZAI_HOOK_UNSEEN, 3, 0, 0},
+    {CODE(64, "\x48\x8b\x07\xff\x24\xc5\x00\x20\x00\x00\x48\xff\xc7\xeb\xf4\xc3"), FEDDURZAI_HOOK_NEED_SIGHT, FEDDURZAI_HOOK_UNSEEN, 3,
+        FEDDURZAI_SIGHT_INDIRECT_JUMP, 0},
+    /* control runs off the end of the bytes */
+    {CODE(64, "\x31\xc0\x31\xc0\x90\x90"), 0, 0, 0, 0, 5},
+    {CODE(64, "\x31\xc0\x31\xc0\x90\x90"), FEDDURZAI_HOOK_NEED_SIGHT, FEDDURZAI_HOOK_UNSEEN, 5, FEDDURZAI_SIGHT_ENDED, 0},
+    {CODE(64, "\x31\xc0\x31\xc0\x90\xc3"), FEDDURZAI_HOOK_NEED_SIGHT, 0, 0, 0, 6},
     /* a loop behind the taken bytes that goes to the start; a call from there is recursion */
     {CODE(64, "\x80\x3f\x00\x74\x05\x48\xff\xc7\xeb\xf6\xc3"), 0, FEDDURZAI_HOOK_LOOP, 8, 0, 0},
     {CODE(64, "\x80\x3f\x00\x74\x05\x48\xff\xc7\xeb\xf6\xc3"), FEDDURZAI_HOOK_ALLOW_LOOPS, 0, 0, 0, 11},
@@ -89,13 +95,18 @@ static void check_codes(void)
             CHECK(parts.target, it->target);
         } else {
             CHECK(parts.unseen_at, it->unseen_at);
-            CHECK(parts.placed, 1);
+            CHECK(parts.taken_at[0] == 0 && parts.place_at[0] == 0, 1);
             CHECK(memcmp(parts.before, it->bytes, (size_t)parts.detour.taken), 0);
         }
         if (failures > before)
             printf("    in row %zu of the codes\n", k);
     }
     CHECK(feddurzai_hook_make(64, 0, NULL, 0, 0, 0, 0, NULL), FEDDURZAI_NULL);
+    {
+        feddurzai_hook_parts parts;
+        CHECK(feddurzai_hook_make(64, 0, NULL, 1, 0, 0, 0, &parts), FEDDURZAI_NULL);
+        CHECK(feddurzai_hook_make(64, 0x1000, (const uint8_t *)codes[0].bytes, codes[0].len, 0x5000, 0x1004, 0, &parts), FEDDURZAI_OVERLAPS);
+    }
 }
 
 /* where the taken instructions are, near and far: je grows, the others keep their lengths */
