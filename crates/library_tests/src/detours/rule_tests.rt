@@ -3,7 +3,7 @@
 use crate::detours::compare::{are_bytes, same};
 use feddurzai::decoding::DecodeError;
 use feddurzai::hooks::{
-    Detour, DetourError, Passage, RuleError, SeenDetour, Sight, SightEnd, StartTarget, View, detour,
+    Detour, DetourError, HookRules, Passage, RuleError, SeenDetour, Sight, SightEnd, StartTarget, View, detour,
     detour_with,
 };
 use feddurzai::values::Bits;
@@ -12,7 +12,7 @@ use std::fmt::Debug;
 use std::process::Abort;
 use std::test::Fail;
 
-/// A function as hexadecimal digits at its address, where the trampoline will stand, its further entries, and whether whole sight is asked for.
+/// A function as hexadecimal digits at its address, where the trampoline will stand, its further entries, and the rules.
 #[derive(Clone, Copy)]
 struct Case {
     bits: Bits,
@@ -22,6 +22,8 @@ struct Case {
     start: StartTarget,
     entries: &'static [u32],
     whole: bool,
+    returns: bool,
+    calls: bool,
 }
 
 /// A function of 64-bit mode at 1000 whose trampoline will stand at 9000, of which all is to be seen.
@@ -33,6 +35,8 @@ const WHOLE: Case = Case {
     start: StartTarget::Moved,
     entries: &[],
     whole: true,
+    returns: false,
+    calls: true,
 };
 
 /// Such a function of which as much is seen as can be.
@@ -76,9 +80,13 @@ fn hooked(alloc: Global, case: &Case) -> Result<Result<SeenDetour, RuleError>, F
         &code,
         0x5000,
         case.place,
-        case.start,
         case.entries,
-        case.whole,
+        HookRules {
+            start: case.start,
+            whole: case.whole,
+            returns: case.returns,
+            calls: case.calls,
+        },
     ))
 }
 
@@ -549,6 +557,25 @@ const REFUSED: &[(Case, RuleError)] = &[
             why: SightEnd::Ended,
         },
     ),
+    // call rax and NOPs: the call is moved as it is; it comes before an entry
+    (
+        Case {
+            code: "ffd0909090c3",
+            entries: &[1],
+            returns: true,
+            calls: false,
+            ..PART
+        },
+        RuleError::Calls { at: 0 },
+    ),
+    // 32-bit mode: push esi; a call of a thunk, which pushes its own return address only if that is asked for
+    (
+        Case {
+            calls: false,
+            ..THUNK
+        },
+        RuleError::Calls { at: 1 },
+    ),
     // 16-bit mode
     (
         Case {
@@ -585,6 +612,81 @@ fn functions_are_refused_in_order(rt: HostRuntime) -> Result<(), Fail> {
     for (case, why) in REFUSED {
         let found = seen_of(rt.alloc(), case)?;
         same(&rt, case.code, &found, &Err(*why));
+    }
+    Ok(())
+}
+
+/// 32-bit mode: push esi; call of a thunk out of the code; add esi, 2000; ret
+const THUNK: Case = Case {
+    code: "56e80001000081c600200000c3",
+    ..WHOLE_32
+};
+
+/// Two NOPs; a call of the start; ret
+const RECURSION: Case = Case {
+    code: "9090e8f9ffffffc3",
+    returns: true,
+    calls: false,
+    ..WHOLE
+};
+
+/// Functions with the bytes of their trampolines, and the first call that is moved as it is.
+const TRAMPOLINES: &[(Case, &str, Option<u32>)] = &[
+    // push rbx; lea rbx, [rip-7], which is its own address and stays; jump back
+    (
+        Case {
+            code: "53488d1df9ffffff5bc3",
+            ..WHOLE
+        },
+        "53488d1df97fffffe9fb7fffff",
+        None,
+    ),
+    // push esi; push 1006; jmp 1106
+    (
+        Case {
+            returns: true,
+            calls: false,
+            ..THUNK
+        },
+        "566806100000e9fb80ffff",
+        None,
+    ),
+    // push esi; call 1106; jump back
+    (THUNK, "56e80081ffffe9fb7fffff", Some(1)),
+    // sub rsp, 8; push 1009; mov dword [rsp+4], 0; jmp 1109
+    (
+        Case {
+            code: "4883ec08e8000100004883c408c3",
+            returns: true,
+            calls: false,
+            ..WHOLE
+        },
+        "4883ec086809100000c744240400000000e9f380ffff",
+        None,
+    ),
+    // two NOPs; push 1007; mov dword [rsp+4], 0; jmp to the first NOP, or to the function
+    (
+        RECURSION,
+        "90906807100000c744240400000000ebef",
+        None,
+    ),
+    (
+        Case {
+            start: StartTarget::Hooked,
+            ..RECURSION
+        },
+        "90906807100000c744240400000000e9ec7fffff",
+        None,
+    ),
+];
+
+#[test]
+fn moved_instructions_do_what_they_did(rt: HostRuntime) -> Result<(), Fail> {
+    for (case, trampoline, call) in TRAMPOLINES {
+        let seen = hooked(rt.alloc(), case)??;
+        let made = &seen.detour;
+        are_bytes(&rt, rt.alloc(), case.code, made.trampoline(), trampoline)?;
+        same(&rt, case.code, &made.call(), call);
     }
     Ok(())
 }
