@@ -101,7 +101,8 @@ enum {
     FEDDURZAI_FULL = -26,           /* no gap of the region is long enough */
     FEDDURZAI_NOT_LIVE = -27,       /* no live block starts at this address */
     FEDDURZAI_UNSEEN = -28,         /* control cannot be followed through the whole function */
-    FEDDURZAI_OVERLAPS = -29        /* the trampoline would lie in the bytes of the function */
+    FEDDURZAI_OVERLAPS = -29,       /* the trampoline would lie in the bytes of the function */
+    FEDDURZAI_CALLS = -30           /* a moved call would hand an address in the trampoline to what it calls */
     /* -256 and below: the instruction has no encoding, see FEDDURZAI_CAUSE */
 };
 
@@ -1482,30 +1483,46 @@ typedef struct feddurzai_moved_start {
 
 /* What feddurzai_detour_with reports. */
 typedef struct feddurzai_hook_report {
-    feddurzai_detour_report detour;     /* as of feddurzai_detour; _UNSEEN: `at` is the offset at which sight ends, and
-                                           `target` is why, FEDDURZAI_SIGHT_NOT_READ ..; _OVERLAPS: both are 0 */
+    feddurzai_detour_report detour;     /* as of feddurzai_detour; _CALLS: `at` is the offset of the call; _UNSEEN: `at` is
+                                           the offset at which sight ends, and `target` is why, FEDDURZAI_SIGHT_NOT_READ
+                                           ..; _OVERLAPS: both are 0 */
     feddurzai_view view;                /* what is seen of the function; all 0 after a refusal */
     uint64_t moved;                     /* the number of moved instructions; 0 after a refusal */
+    uint64_t call;                      /* the offset of the first call that is moved as it is: what it calls sees a
+                                           return address in the trampoline. If there is none, .detour.taken; 0 after a
+                                           refusal */
 } feddurzai_hook_report;
 
+/* Rules of feddurzai_detour_with, to be added. */
+enum {
+    FEDDURZAI_RULE_WHOLE = 1,           /* refuse a function of which not everything is seen (_UNSEEN) */
+    FEDDURZAI_RULE_RETURNS = 2,         /* a near call that is the last moved instruction pushes the address behind it in
+                                           the function and jumps, where it can: what it calls sees the return address
+                                           that it always saw, and returns into the function. Not for a process with a
+                                           shadow stack (CET) */
+    FEDDURZAI_RULE_NO_CALLS = 4         /* refuse any other moved call (_CALLS) */
+};
+
 /*
- * Makes the hook that feddurzai_detour makes, looks at the function as feddurzai_look does, and refuses the hook if
- * control is seen to enter the overwritten bytes. docs/hooks.md says what the rules are.
+ * Makes a hook by rules: as feddurzai_detour does, but an operand at RIP or EIP keeps its address even if that is in the
+ * overwritten bytes, as the base of position-independent code is. The call looks at the function as feddurzai_look does,
+ * and refuses the hook if control is seen to enter the overwritten bytes. docs/hooks.md says what the rules are.
  *
  *  - bits, ip, code, len, to, place, start: as in feddurzai_detour.
- *  - whole: 0, or any other number to refuse a function of which not everything is seen (_UNSEEN).
+ *  - rules: FEDDURZAI_RULE_WHOLE .., added, or 0. More than 7 is _BAD_START.
  *  - entries, entry_count: further offsets at which control comes in, as in feddurzai_look.
  *  - patch, patch_room and trampoline, trampoline_room: as in feddurzai_detour.
  *  - moved, moved_room: receive the moved instructions, in order. There are at most as many as the patch has bytes.
  *  - report: receives the report. If a buffer is too small, it has the sizes, the view and the number of moved
  *    instructions all the same; after any other refusal it has the numbers of that refusal.
  *
- * Refused are a trampoline that would lie in the bytes of the function; an entry within the overwritten bytes after the
+ * Refused are a trampoline that would lie in the bytes of the function; a moved call, if FEDDURZAI_RULE_NO_CALLS asks for
+ * that and it does not push its own return address; an entry within the overwritten bytes after the
  * first one; and a way into them that feddurzai_look reports: from behind them, after the first byte, or from a moved
  * instruction to where none begins. With FEDDURZAI_START_MOVED a way from behind them to the start is refused too,
  * unless it is a call, since it would reach the replacement in mid-function.
  *
- * Returns 0, or the refusals of feddurzai_detour before _NO_ROOM; then _OVERLAPS, _ENTERED, _UNSEEN, _NO_ROOM.
+ * Returns 0, or the refusals of feddurzai_detour before _NO_ROOM; then _OVERLAPS, _CALLS, _ENTERED, _UNSEEN, _NO_ROOM.
  * _ENTERED reports an entry within as both offsets. _NO_MEMORY may replace any of those after _TOO_LARGE. The call
  * allocates memory.
  *
@@ -1513,11 +1530,11 @@ typedef struct feddurzai_hook_report {
  *     static const uint8_t partly_seen[] = {0x48, 0x8b, 0x07, 0x48, 0x89, 0xc1, 0x62, 0xf1, 0x7c, 0x48, 0x28, 0xc1,
  *         0xeb, 0xf5, 0xc3};
  *     said = feddurzai_detour_with(64, 0x1000, partly_seen, sizeof partly_seen, 0x2000, 0x3000, FEDDURZAI_START_MOVED,
- *         1, NULL, 0, patch, sizeof patch, trampoline, sizeof trampoline, moved, 2, &hook);
+ *         FEDDURZAI_RULE_WHOLE, NULL, 0, patch, sizeof patch, trampoline, sizeof trampoline, moved, 2, &hook);
  *     // said is FEDDURZAI_UNSEEN, and hook.detour.at is 6. Without whole sight it is 0, and moved[1] has 3 and 3
  */
 int32_t feddurzai_detour_with(uint32_t bits, uint64_t ip, const uint8_t *code, size_t len, uint64_t to, uint64_t place,
-    uint32_t start, uint32_t whole, const uint32_t *entries, size_t entry_count, uint8_t *patch, size_t patch_room,
+    uint32_t start, uint32_t rules, const uint32_t *entries, size_t entry_count, uint8_t *patch, size_t patch_room,
     uint8_t *trampoline, size_t trampoline_room, feddurzai_moved_start *moved, size_t moved_room,
     feddurzai_hook_report *report);
 
@@ -1835,7 +1852,7 @@ static inline int32_t feddurzai_checked_look(uint32_t bits, uint64_t ip, const u
 }
 
 static inline int32_t feddurzai_checked_detour_with(uint32_t bits, uint64_t ip, const uint8_t *code, size_t len,
-    uint64_t to, uint64_t place, uint32_t start, uint32_t whole, const uint32_t *entries, size_t entry_count,
+    uint64_t to, uint64_t place, uint32_t start, uint32_t rules, const uint32_t *entries, size_t entry_count,
     uint8_t *patch, size_t patch_room, uint8_t *trampoline, size_t trampoline_room, feddurzai_moved_start *moved,
     size_t moved_room, feddurzai_hook_report *report)
 {
@@ -1843,7 +1860,7 @@ static inline int32_t feddurzai_checked_detour_with(uint32_t bits, uint64_t ip, 
         return FEDDURZAI_NULL;
     if (feddurzai_is_null(trampoline, trampoline_room) || feddurzai_is_null(moved, moved_room) || report == NULL)
         return FEDDURZAI_NULL;
-    return feddurzai_detour_with(bits, ip, code, len, to, place, start, whole, entries, entry_count, patch, patch_room,
+    return feddurzai_detour_with(bits, ip, code, len, to, place, start, rules, entries, entry_count, patch, patch_room,
         trampoline, trampoline_room, moved, moved_room, report);
 }
 

@@ -110,7 +110,8 @@ static void check_layout(void)
     CHECK(offsetof(feddurzai_detour_report, form), 56);
     CHECK(sizeof(feddurzai_moved_start), 16);
     CHECK(offsetof(feddurzai_moved_start, place), 8);
-    CHECK(sizeof(feddurzai_hook_report), 128);
+    CHECK(sizeof(feddurzai_hook_report), 136);
+    CHECK(offsetof(feddurzai_hook_report, call), 128);
     CHECK(offsetof(feddurzai_hook_report, view), 64);
     CHECK(offsetof(feddurzai_hook_report, moved), 120);
 }
@@ -1435,6 +1436,13 @@ static void check_ruled_detours(void)
     /* je to the end; mov rcx, rax; two nops; ret: in the trampoline the branch has 6 bytes */
     static const uint8_t longer[] = {0x74, 0x05, 0x48, 0x89, 0xc1, 0x90, 0x90, 0xc3};
     static const uint8_t trampoline_of_longer[] = {0x0f, 0x84, 0x01, 0xe0, 0xff, 0xff, 0x48, 0x89, 0xc1, 0xe9, 0xf7, 0xdf, 0xff, 0xff};
+    /* sub rsp, 8; call 0x1109; add rsp, 8; ret: in the trampoline push 0x1009; mov dword [rsp+4], 0; jmp 0x1109 */
+    static const uint8_t calling[] = {0x48, 0x83, 0xec, 0x08, 0xe8, 0x00, 0x01, 0x00, 0x00, 0x48, 0x83, 0xc4, 0x08, 0xc3};
+    static const uint8_t trampoline_of_calling[] = {0x48, 0x83, 0xec, 0x08, 0x68, 0x09, 0x10, 0x00, 0x00, 0xc7, 0x44, 0x24, 0x04, 0x00, 0x00,
+        0x00, 0x00, 0xe9, 0xf3, 0xe0, 0xff, 0xff};
+    /* push rbx; lea rbx, [rip-7]; pop rbx; ret */
+    static const uint8_t based[] = {0x53, 0x48, 0x8d, 0x1d, 0xf9, 0xff, 0xff, 0xff, 0x5b, 0xc3};
+    static const uint8_t trampoline_of_based[] = {0x53, 0x48, 0x8d, 0x1d, 0xf9, 0xdf, 0xff, 0xff, 0xe9, 0xfb, 0xdf, 0xff, 0xff};
     static const uint32_t at_10[] = {10}, at_4[] = {9, 4, 5}, outside[] = {0, 6, 7, UINT32_MAX};
     uint8_t *patch = malloc(FEDDURZAI_MAX_PATCH), *out = malloc(64), *large = calloc(1, FEDDURZAI_MAX_CODE + 1);
     feddurzai_moved_start *moved = malloc(4 * sizeof *moved);
@@ -1442,11 +1450,11 @@ static void check_ruled_detours(void)
     feddurzai_detour_report *d = malloc(sizeof *d);
     static const feddurzai_view nothing;
     size_t room;
-#define DETOUR_AT(place, code, start, whole, entries, count) \
-    feddurzai_detour_with(64, 0x1000, code, sizeof code, 0x2000, place, start, whole, entries, count, patch, FEDDURZAI_MAX_PATCH, \
+#define DETOUR_AT(place, code, start, rules, entries, count) \
+    feddurzai_detour_with(64, 0x1000, code, sizeof code, 0x2000, place, start, rules, entries, count, patch, FEDDURZAI_MAX_PATCH, \
         out, 64, moved, 4, r)
-#define DETOUR(code, start, whole, entries, count) DETOUR_AT(0x3000, code, start, whole, entries, count)
-#define NOTHING_IS_SEEN() (memcmp(&r->view, &nothing, offsetof(feddurzai_view, has_suspect) + 1) == 0 && r->moved == 0)
+#define DETOUR(code, start, rules, entries, count) DETOUR_AT(0x3000, code, start, rules, entries, count)
+#define NOTHING_IS_SEEN() (memcmp(&r->view, &nothing, offsetof(feddurzai_view, has_suspect) + 1) == 0 && r->moved == 0 && r->call == 0)
     memset(patch, 0xaa, FEDDURZAI_MAX_PATCH);
     memset(out, 0xaa, 64);
     memset(moved, 0xaa, 4 * sizeof *moved);
@@ -1464,7 +1472,7 @@ static void check_ruled_detours(void)
     CHECK(r->detour.at == 6 && r->detour.target == FEDDURZAI_SIGHT_NOT_READ, 1);
     CHECK(r->detour.taken | r->detour.bytes | r->detour.form, 0);
     CHECK(NOTHING_IS_SEEN(), 1);
-    CHECK(DETOUR(unread, FEDDURZAI_START_MOVED, UINT32_MAX, NULL, 0), FEDDURZAI_UNSEEN);
+    CHECK(DETOUR(unread, FEDDURZAI_START_MOVED, 8, NULL, 0), FEDDURZAI_BAD_START);
     CHECK(DETOUR(by_table, FEDDURZAI_START_MOVED, 1, NULL, 0), FEDDURZAI_UNSEEN);
     CHECK(r->detour.at == 3 && r->detour.target == FEDDURZAI_SIGHT_INDIRECT_JUMP, 1);
     /* the same with a case of the table known: it goes back to the jump */
@@ -1521,6 +1529,20 @@ static void check_ruled_detours(void)
     CHECK(memcmp(out, trampoline_of_longer, 14), 0);
     CHECK(r->moved == 2 && moved[0].start == 0 && moved[0].place == 0, 1);
     CHECK(moved[1].start == 2 && moved[1].place == 6, 1);
+
+    /* calls: the last moved one pushes its own return address, or is moved as it is, or refused */
+    CHECK(DETOUR(calling, FEDDURZAI_START_MOVED, FEDDURZAI_RULE_RETURNS + FEDDURZAI_RULE_NO_CALLS, NULL, 0), 0);
+    CHECK(r->detour.bytes == 22 && r->detour.jump_back == 22 && r->moved == 2 && r->call == 9, 1);
+    CHECK(memcmp(out, trampoline_of_calling, 22), 0);
+    CHECK(DETOUR(calling, FEDDURZAI_START_MOVED, 0, NULL, 0), 0);
+    CHECK(r->detour.bytes == 14 && r->detour.jump_back == 9 && r->moved == 2 && r->call == 4, 1);
+    CHECK(DETOUR(calling, FEDDURZAI_START_MOVED, FEDDURZAI_RULE_NO_CALLS, NULL, 0), FEDDURZAI_CALLS);
+    CHECK(r->detour.at == 4 && r->detour.target == 0, 1);
+    CHECK(NOTHING_IS_SEEN(), 1);
+    /* an address at RIP stays, here its own */
+    CHECK(DETOUR(based, FEDDURZAI_START_MOVED, 0, NULL, 0), 0);
+    CHECK(r->detour.bytes == 13 && r->call == 8, 1);
+    CHECK(memcmp(out, trampoline_of_based, 13), 0);
 
     /* a buffer is too small: nothing is written, and the report has what there is */
     for (room = 0; room < 3; room++) {

@@ -396,7 +396,7 @@ def hooks_are_made_by_rules():
     check(made.view, f.View(f.Sight.NOT_READ, 6, None, None, f.Passage(12, 3)))
     check((alone.moved, alone.view, len(alone)), (None, None, 7))
     copy = pickle.loads(pickle.dumps(made))
-    check((type(copy), copy, copy.moved, copy.view), (f.Detour, made, made.moved, made.view))
+    check((type(copy), copy, copy.moved, copy.view, copy.call), (f.Detour, made, made.moved, made.view, None))
     unseen = refused(f.Reason.UNSEEN, f.detour, 64, 0x1000, unread, 0x2000, 0x3000, whole=True)
     check((unseen.report.at, unseen.report.target), (6, f.Sight.NOT_READ))
     # mov rax, [rdi]; jmp [8*rax+0x2000]; inc rdi; jmp to the first jump; ret: with the case at 10 known, and without
@@ -417,6 +417,13 @@ def hooks_are_made_by_rules():
     overlaps = refused(f.Reason.OVERLAPS, f.detour, 64, 0x1000, loop, 0x2000, 0x100A, f.Start.HOOKED, entries=())
     check(str(overlaps), "the trampoline would lie in the bytes of the function")
     refused(f.Reason.BAD_START, f.detour, 64, 0x1000, loop, 0x2000, 0x3000, 2, whole=True)
+    # push esi; call of a thunk; add esi, 0x2000; ret: the call pushes its own return address, or is moved as it is, or refused
+    thunk = code("56 e800010000 81c600200000 c3")
+    own = f.detour(32, 0x1000, thunk, 0x2000, 0x9000, returns=True, calls=False)
+    check((own.trampoline, own.call, own.jump_back), (code("56 6806100000 e9fb80ffff"), None, None))
+    check(f.detour(32, 0x1000, thunk, 0x2000, 0x9000, whole=True).call, 1)
+    calls = refused(f.Reason.CALLS, f.detour, 32, 0x1000, thunk, 0x2000, 0x9000, calls=False)
+    check(str(calls), "a moved call would hand an address in the trampoline to what it calls: at offset 1")
     # the code ends within an instruction, after what is overwritten
     ended = refused(f.Reason.UNSEEN, f.detour, 64, 0x1000, code("31c0 31c0 90 48"), 0x2000, 0x3000, whole=True)
     check(str(ended), "control cannot be followed through the whole function: at offset 5 the code ends")

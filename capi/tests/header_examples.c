@@ -303,7 +303,7 @@ static void hooked_by_rules(void)
     static const uint8_t partly_seen[] = {0x48, 0x8b, 0x07, 0x48, 0x89, 0xc1, 0x62, 0xf1, 0x7c, 0x48, 0x28, 0xc1,
         0xeb, 0xf5, 0xc3};
     said = feddurzai_detour_with(64, 0x1000, partly_seen, sizeof partly_seen, 0x2000, 0x3000, FEDDURZAI_START_MOVED,
-        1, NULL, 0, patch, sizeof patch, trampoline, sizeof trampoline, moved, 2, &hook);
+        FEDDURZAI_RULE_WHOLE, NULL, 0, patch, sizeof patch, trampoline, sizeof trampoline, moved, 2, &hook);
     // said is FEDDURZAI_UNSEEN, and hook.detour.at is 6. Without whole sight it is 0, and moved[1] has 3 and 3
     CHECK(said, FEDDURZAI_UNSEEN);
     CHECK(hook.detour.at, 6);

@@ -12,10 +12,11 @@ from ._sight import View, view_of
 
 _REPORT = struct.Struct("=7QB7x")
 _ReportRoom = _native.room_of(_REPORT.size)
-# feddurzai_hook_report: the report of a detour, a view, and the number of moved instructions
-_HOOK_REPORT = struct.Struct("=7QB7x6Q4B4xQ")
+# feddurzai_hook_report: the report of a detour, a view, the number of moved instructions, and the offset of a call
+_HOOK_REPORT = struct.Struct("=7QB7x6Q4B4xQQ")
 _HookRoom = _native.room_of(_HOOK_REPORT.size)
-_OF_DETOUR, _OF_VIEW, _OF_MOVED = slice(8), slice(8, 18), 18
+_OF_DETOUR, _OF_VIEW, _OF_MOVED, _OF_CALL = slice(8), slice(8, 18), 18, 19
+_RULE_WHOLE, _RULE_RETURNS, _RULE_NO_CALLS = 1, 2, 4
 _MOVED = struct.Struct("=QQ")
 
 
@@ -46,8 +47,9 @@ class Detour(_Parts):
     Write `patch` over the first bytes of the function, and `trampoline` to the place for which it was made. Calling the trampoline is calling
     the original function. `jump_back`, `slots` and `relay` are the offsets of these parts of the trampoline, None for an absent one.
 
-    If `detour` was called with `entries` or `whole`, `moved` has a `MovedStart` for each moved instruction, in order, and `view` is the `View` of
-    the function. Else both are None. They are attributes alone: as a tuple a detour has the seven parts `patch` to `report`.
+    If `detour` was called with `entries` or a rule, `moved` has a `MovedStart` for each moved instruction, in order, `view` is the `View` of the
+    function, and `call` is the offset of the first call that is moved as it is, None if there is none: what it calls sees a return address in the
+    trampoline. Else these are None. They are attributes alone: as a tuple a detour has the seven parts `patch` to `report`.
 
     >>> made = detour(64, 0x1000, bytes.fromhex("4883ec18 31c0 c3"), 0x2000, 0x3000)
     >>> made.patch.hex(), made.trampoline.hex(), made.jump_back
@@ -56,6 +58,7 @@ class Detour(_Parts):
 
     moved: Optional[Tuple[MovedStart, ...]] = None
     view: Optional[View] = None
+    call: Optional[int] = None
 
 
 def _detour_of(patch: bytes, trampoline: bytes, report: DetourReport) -> Detour:
@@ -80,10 +83,10 @@ def _without_rules(function: _Function) -> Detour:
     return _detour_of(patch.raw, trampoline.raw, report)
 
 
-def _by_rules(function: _Function, entries: Iterable[int], whole: bool) -> Detour:
+def _by_rules(function: _Function, entries: Iterable[int], rules: int) -> Detour:
     """The detour with what was seen: a first call reports the sizes of the buffers for the second."""
     chosen = [_checks.number("each of entries", entry, _checks.U32) for entry in entries]
-    given = (*function, int(bool(whole)), (c_uint32 * len(chosen))(*chosen), len(chosen))
+    given = (*function, rules, (c_uint32 * len(chosen))(*chosen), len(chosen))
     room = _HookRoom()
     said = _native.detour_with(*given, None, 0, None, 0, None, 0, room)
     fields = _HOOK_REPORT.unpack(room.raw)
@@ -97,6 +100,7 @@ def _by_rules(function: _Function, entries: Iterable[int], whole: bool) -> Detou
     made = _detour_of(patch.raw, trampoline.raw, report)
     made.moved = tuple(MovedStart(*pair) for pair in _MOVED.iter_unpack(moved.raw))
     made.view = view_of(fields[_OF_VIEW])
+    made.call = fields[_OF_CALL] if fields[_OF_CALL] < report.taken else None
     return made
 
 
@@ -110,6 +114,8 @@ def detour(
     *,
     entries: Optional[Iterable[int]] = None,
     whole: bool = False,
+    returns: bool = False,
+    calls: bool = True,
 ) -> Detour:
     """Makes the patch and the trampoline that hook the function at address `ip`.
 
@@ -119,12 +125,15 @@ def detour(
 
     The jump is the first form that reaches: a near jump; a near jump to a relay after the trampoline; 14 bytes with the address.
 
-    With `entries` or `whole`, the function is looked at too, as `look` does, and refused if control is seen to enter the overwritten bytes.
-    `entries` are further offsets at which control comes in, perhaps none; those outside the code are ignored. If `whole` is true, a function is
-    also refused if not everything is seen (UNSEEN). docs/hooks.md says what the rules are.
+    With `entries` or a rule, the function is looked at too, as `look` does, and refused if control is seen to enter the overwritten bytes. An
+    operand at RIP or EIP then keeps its address, even in the overwritten bytes. `entries` are further offsets at which control comes in, perhaps
+    none; those outside the code are ignored. The rules: with `whole` a function is refused if not everything is seen (UNSEEN). With `returns` a
+    near call that is the last moved instruction pushes its own return address and jumps, where it can. Without `calls` any other moved call is
+    refused (CALLS). docs/hooks.md has more about them.
 
     Raises Refusal with a report and BAD_MODE, BAD_START, TOO_LARGE (more than MAX_CODE bytes), SMALL, ENDS, ENTERED, WRAPS, TOO_FAR or NO_MEMORY,
-    and InvalidCode or TooShort if the bytes to be overwritten are not instructions. With `entries` or `whole` also with OVERLAPS or UNSEEN.
+    and InvalidCode or TooShort if the bytes to be overwritten are not instructions. With `entries` or a rule also with OVERLAPS,
+    CALLS or UNSEEN.
 
     >>> try:
     ...     detour(64, 0x1000, bytes.fromhex("31c0 ffc0 39f8 72fa c3"), 0x2000, 0x3000)
@@ -136,12 +145,15 @@ def detour(
     ... except Refusal as refusal:
     ...     print(refusal)
     control cannot be followed through the whole function: at offset 6 no instruction of the table begins
+    >>> detour(32, 0x1000, bytes.fromhex("56 e800010000 81c600200000 c3"), 0x2000, 0x9000, returns=True, calls=False).trampoline.hex()
+    '566806100000e9fb80ffff'
     """
     code = _checks.code_bytes("code", code)
     bits, ip = _checks.number("bits", bits, _checks.U32), _checks.number("ip", ip)
     to, place = _checks.number("to", to), _checks.number("place", place)
     start = _checks.number("start", start, _checks.U32)
     function = (bits, ip, code, len(code), to, place, start)
-    if entries is None and not whole:
+    rules = (_RULE_WHOLE if whole else 0) + (_RULE_RETURNS if returns else 0) + (0 if calls else _RULE_NO_CALLS)
+    if entries is None and not rules:
         return _without_rules(function)
-    return _by_rules(function, () if entries is None else entries, whole)
+    return _by_rules(function, () if entries is None else entries, rules)

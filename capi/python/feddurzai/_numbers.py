@@ -366,6 +366,7 @@ class Reason(Named):
     NOT_LIVE = -27
     UNSEEN = -28
     OVERLAPS = -29
+    CALLS = -30
     NO_ENCODING = -256
 
 

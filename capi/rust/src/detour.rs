@@ -84,11 +84,11 @@ pub struct Detour {
 }
 
 /// What [`Detour::with_rules`] asks of a function besides what every hook does. By default there are no further entries, and
-/// whole sight is not needed.
+/// no rule is asked for.
 ///
 /// ```
-/// let rules = feddurzai::DetourRules { entries: &[0x40, 0x91], whole: true };
-/// assert!(rules.whole && feddurzai::DetourRules::default().entries.is_empty());
+/// let rules = feddurzai::DetourRules { entries: &[0x40, 0x91], whole: true, ..Default::default() };
+/// assert!(rules.whole && !rules.returns && feddurzai::DetourRules::default().entries.is_empty());
 /// ```
 #[derive(Clone, Copy, Debug, Default, PartialEq, Eq, Hash)]
 pub struct DetourRules<'a> {
@@ -97,6 +97,11 @@ pub struct DetourRules<'a> {
     pub entries: &'a [u32],
     /// Whether a function is refused of which not everything is seen.
     pub whole: bool,
+    /// Whether a near CALL that is the last moved instruction pushes the address behind it in the function and jumps, where
+    /// it can: what it calls sees the return address that it always saw. Not for a process with a shadow stack (CET).
+    pub returns: bool,
+    /// Whether any other moved call is refused: what it calls would see a return address in the trampoline.
+    pub no_calls: bool,
 }
 
 /// A moved instruction of a detour.
@@ -138,6 +143,8 @@ pub struct SeenDetour {
     pub moved: Vec<MovedStart>,
     /// What was seen.
     pub view: View,
+    /// The offset of the first call that is moved as it is, if there is one.
+    pub call: Option<u64>,
 }
 
 impl Detour {
@@ -170,8 +177,9 @@ impl Detour {
         Detour::of(patch, trampoline, &report)
     }
 
-    /// Makes the hook that [`Detour::new`] makes, looks at the function as [`look`](crate::look) does, and refuses the hook
-    /// if control is seen to enter the overwritten bytes. `docs/hooks.md` of the sources says what the rules are.
+    /// Makes a hook by rules: as [`Detour::new`] does, but an operand at RIP or EIP keeps its address, even if that is in the
+    /// overwritten bytes. It looks at the function as [`look`](crate::look) does, and refuses the hook if control is seen to
+    /// enter the overwritten bytes. `docs/hooks.md` of the sources says what the rules are.
     ///
     /// ```
     /// use feddurzai::{Detour, DetourRules, DetourStart, Error, SightEnd};
@@ -190,8 +198,8 @@ impl Detour {
     ///
     /// # Errors
     ///
-    /// Those of [`Detour::new`]; then [`Error::Overlaps`], [`Error::Entered`] (an entry within the overwritten bytes has its
-    /// own offset twice) and [`Error::Unseen`].
+    /// Those of [`Detour::new`]; then [`Error::Overlaps`], [`Error::Calls`], [`Error::Entered`] (an entry within the
+    /// overwritten bytes has its own offset twice) and [`Error::Unseen`].
     pub fn with_rules(
         bitness: u32,
         ip: u64,
@@ -205,10 +213,11 @@ impl Detour {
         // a patch has at most MAX_PATCH bytes, and moves no more instructions
         let (mut patch, mut moved) = (vec![0; MAX_PATCH], vec![sys::MovedStart::ZERO; MAX_PATCH]);
         let mut trampoline = Vec::new();
+        let rule_bits = u32::from(rules.whole) + 2 * u32::from(rules.returns) + 4 * u32::from(rules.no_calls);
         let mut report = sys::HookReport::default();
         let mut call = |trampoline: &mut [u8], report: &mut sys::HookReport| {
             let out = HookOut { patch: &mut patch, trampoline, moved: &mut moved };
-            library.detour_with(bitness, ip, code, to, place, start as u32, rules.whole, rules.entries, out, report)
+            library.detour_with(bitness, ip, code, to, place, start as u32, rule_bits, rules.entries, out, report)
         };
         let mut status = call(&mut trampoline, &mut report);
         if status == -6 {
@@ -223,6 +232,7 @@ impl Detour {
             detour: Detour::of(patch, trampoline, &report.detour)?,
             moved: moved.iter().map(|one| MovedStart { start: one.start, place: one.place }).collect(),
             view: View::of(&report.view),
+            call: Some(report.call).filter(|&at| at < report.detour.taken),
         })
     }
 

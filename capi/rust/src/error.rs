@@ -107,6 +107,11 @@ pub enum Error {
     },
     /// The trampoline would lie in the bytes of the function.
     Overlaps,
+    /// A moved call would hand an address in the trampoline to what it calls.
+    Calls {
+        /// Its offset.
+        at: u64,
+    },
     /// The instruction has no encoding: the first of ten conditions that fails.
     NoEncoding {
         /// The condition.
@@ -255,6 +260,7 @@ impl Error {
             -27 => Error::NotLive,
             -28 => Error::Unseen { at: place.at, why: SightEnd::of(place.address) },
             -29 => Error::Overlaps,
+            -30 => Error::Calls { at: place.at },
             _ => Error::of_encoding(status),
         }
     }
@@ -325,6 +331,9 @@ impl fmt::Display for Error {
                 write!(f, "control cannot be followed through the whole function: at offset {} {}", at, why)
             }
             Error::Overlaps => f.write_str("the trampoline would lie in the bytes of the function"),
+            Error::Calls { at } => {
+                write!(f, "a moved call would hand an address in the trampoline to what it calls: at offset {}", at)
+            }
             Error::NoEncoding { cause, operand: Some(operand) } => {
                 write!(f, "no encoding: operand {}: {}", operand, cause)
             }

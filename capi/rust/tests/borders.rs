@@ -56,7 +56,7 @@ fn moves_and_hooks() {
                     let _ = (step(bitness, ip, code, place), step_len(bitness, ip, code, place));
                     for start in [DetourStart::Moved, DetourStart::Hooked] {
                         let _ = Detour::new(bitness, ip, code, !place, place, start);
-                        let rules = DetourRules { entries: &[0, 3, u32::MAX], whole: false };
+                        let rules = DetourRules { entries: &[0, 3, u32::MAX], returns: true, ..DetourRules::default() };
                         let _ = Detour::with_rules(bitness, ip, code, !place, place, start, rules);
                     }
                 }

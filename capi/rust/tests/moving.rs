@@ -211,7 +211,7 @@ fn hooks_are_refused() {
 fn hooks_follow_rules() {
     use feddurzai::{look, DetourRules, MovedStart, Passage, Sight, SightEnd, StartRule};
     let by = |code: &[u8], place, start, entries: &[u32], whole| {
-        Detour::with_rules(64, 0x1000, code, 0x2000, place, start, DetourRules { entries, whole })
+        Detour::with_rules(64, 0x1000, code, 0x2000, place, start, DetourRules { entries, whole, ..DetourRules::default() })
     };
     // mov rax, [rdi]; mov rcx, rax; vsubps zmm0, zmm0, zmm1, which has no row; jmp to the second one; ret
     let unread = b"\x48\x8B\x07\x48\x89\xC1\x62\xF1\x7C\x48\x28\xC1\xEB\xF5\xC3";
@@ -240,6 +240,16 @@ fn hooks_follow_rules() {
     assert_eq!(refused, Error::Entered { from: 3, to: 3 });
     assert_eq!(by(looping, 0x100A, DetourStart::Hooked, &[], false), Err(Error::Overlaps));
     assert!(by(looping, 0x100B, DetourStart::Hooked, &[], false).is_ok());
+    // push esi; call of a thunk; add esi, 0x2000; ret
+    let thunk = b"\x56\xE8\x00\x01\x00\x00\x81\xC6\x00\x20\x00\x00\xC3";
+    let by_call = |returns, no_calls| {
+        let rules = DetourRules { returns, no_calls, ..DetourRules::default() };
+        Detour::with_rules(32, 0x1000, thunk, 0x2000, 0x9000, DetourStart::Moved, rules)
+    };
+    let seen = by_call(true, true).unwrap();
+    assert_eq!((seen.detour.trampoline(), seen.call), (&b"\x56\x68\x06\x10\x00\x00\xE9\xFB\x80\xFF\xFF"[..], None));
+    assert_eq!(by_call(false, false).unwrap().call, Some(1));
+    assert_eq!(by_call(false, true).unwrap_err(), Error::Calls { at: 1 });
     // an entry within is seen, and refused by no look; the code ends after the part that is overwritten
     let view = look(64, 0x1000, b"\x31\xC0\x31\xC0\x90\x48", &[2, 4], 5, &[0, 2, 4], StartRule::Open).unwrap();
     assert_eq!((view.sight, view.inside), (Sight::Ends { at: 5, why: SightEnd::Ended }, Some(2)));
@@ -278,6 +288,7 @@ fn errors_are_shown() {
         Error::Unseen { at: 1, why: SightEnd::IndirectJump },
         Error::Unseen { at: 1, why: SightEnd::Ended },
         Error::Overlaps,
+        Error::Calls { at: 1 },
         Error::NoEncoding { cause: Cause::Kind, operand: Some(1) },
         Error::NoEncoding { cause: Cause::Length, operand: None },
         Error::Scattered { instruction: 1 },

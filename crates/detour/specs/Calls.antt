@@ -1,24 +1,23 @@
 -- Moved instructions that hand an address in the trampoline to what they call.
-use Rattle.std.specs.Prelude.{ℕ, ◌-◌, Bool, true, false, if◌then◌else◌, is_some, List, length, Option, Some, None}
+use Rattle.std.specs.Prelude.{ℕ, ◌-◌, Bool, ◌||◌, if◌then◌else◌, is_some, List, [], ◌∷◌, length, bytes_eq, Option, Some, None}
 use Rattle.x86_values.specs.declared.Bits.{Bits}
-use Rattle.operand_info.specs.declared.columns.Flow.{Flow}
-use Rattle.operand_info.specs.declared.columns.Flow.TheVariants.{Call, IndirectCall}
-use Rattle.operand_info.specs.ByCode.{flow_of}
+use Rattle.opcode_rows.specs.Table.{name_of}
 use Rattle.move_goals.specs.declared.items.Placed.{Placed}
 use Rattle.move_goals.specs.Items.{first_below, item_at}
 use Rattle.detour.specs.declared.start.MoveRule.{MoveRule}
 use Rattle.detour.specs.Taken.{offset_at, moved_count}
 use Rattle.detour.specs.Trampoline.{pushed_last}
 
--- the address behind the instruction is handed to what it calls: CALL pushes it, SYSCALL leaves it in RCX (CALL, SYSCALL)
-unfoldable pub is_calling : Flow → Bool
-is_calling Call = true
-is_calling IndirectCall = true
-is_calling _ = false
+-- the names of the near CALL and of the far one
+abbrev pub call_name : List ℕ
+call_name = 0x63 ∷ 0x61 ∷ 0x6C ∷ 0x6C ∷ []
 
--- an instruction does
-abbrev pub calls : Placed → Bool
-calls item = is_calling (flow_of item.instr.code.0)
+abbrev pub far_call_name : List ℕ
+far_call_name = 0x63 ∷ 0x61 ∷ 0x6C ∷ 0x6C ∷ 0x66 ∷ []
+
+-- an instruction is a CALL: it pushes the address behind it (CALL)
+unfoldable pub calls : Placed → Bool
+calls item = bytes_eq (name_of item.instr.code.0) call_name || bytes_eq (name_of item.instr.code.0) far_call_name
 
 -- the first of so many instructions that does
 unfoldable pub first_call : List Placed → ℕ → Option ℕ

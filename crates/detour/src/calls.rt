@@ -10,32 +10,17 @@ use crate::start::MoveRule;
 use crate::taken::{Taken, moved_count, offset_at};
 use crate::trampoline::pushed_last;
 use move_goals::Placed;
-use operand_info::{Flow, flow_of};
+use opcode_rows::name;
 use x86_values::Bits;
 
-/// Whether an instruction with this flow is a call.
-#[tactic(auto, unfolding(crate::specs::Calls::is_calling))]
-fn is_calling(flow: Flow) -> bool
-    ensures { result ≡ spec.is_calling flow }
-{
-    match flow {
-        Flow::Call | Flow::IndirectCall => true,
-        Flow::Next
-        | Flow::UnconditionalBranch
-        | Flow::IndirectBranch
-        | Flow::ConditionalBranch
-        | Flow::Return
-        | Flow::Interrupt
-        | Flow::Exception => false,
-    }
-}
-
-/// Whether an instruction is a call.
+/// Returns whether an instruction is a CALL, near or far: it pushes the address behind it. (SYSCALL leaves it in RCX, for the system alone.)
+#[tactic(auto, unfolding(crate::specs::Calls::calls))]
 fn calls(item: &Placed) -> bool
     requires { item.now.instr.code.0 < ROWS }
     ensures { result ≡ spec.calls item.now }
 {
-    is_calling(flow_of(item.instr.code))
+    let name = name(item.instr.code);
+    name == "call" || name == "callf"
 }
 
 /// Returns the number of the first call among the first `count` instructions.

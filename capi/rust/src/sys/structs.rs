@@ -203,5 +203,6 @@ structs! {
         detour: DetourReport,
         view: View,
         moved: u64,
+        call: u64,
     }
 }
