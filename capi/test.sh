@@ -152,8 +152,8 @@ tries_hooks32() {
     "$out/hooked32.out" >"$work/after32.log" || die_with "$work/after32.log" "$backend: tests/hooked32.c: a hook was not called"
     cmp "$work/before32.log" "$work/after32.log" || die "$backend: a hooked 32-bit function returns something else"
     # position-independent code whose first call is a thunk
-    grep -q '^pic_sum: refused: a CALL' "$work/hooks32.log" || die_with "$work/hooks32.log" "$backend: tests/hooks32.c: a thunk is not refused"
-    say "$backend: 32-bit code: $(grep -c ': hooked' "$work/hooks32.log") functions hooked, their results are the same; $(grep -c 'refused: a CALL' "$work/hooks32.log") refused for a call of a thunk"
+    grep -q '^pic_sum: hooked' "$work/hooks32.log" || die_with "$work/hooks32.log" "$backend: tests/hooks32.c: a function that begins with a thunk is not hooked"
+    say "$backend: 32-bit code: $(grep -c ': hooked' "$work/hooks32.log") functions hooked, their results are the same"
 }
 
 # makes_debugged [-g]: a program to look into. It has a call, a call through the PLT, and bytes at the end of what can be read

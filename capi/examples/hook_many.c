@@ -496,7 +496,7 @@ static int try_owns(void)
 {
     struct own { int hook; int32_t far; unsigned long calls; uint32_t flags; } owns[] = {
         {at_own_branch, 0, 257, 0}, {at_own_loop, 0, 257, 0}, {at_own_rip, FEDDURZAI_TOO_FAR, 257, 0},
-        {at_own_call, 0, 257, FEDDURZAI_HOOK_ALLOW_CALLS}, {at_own_jrcxz, 0, 257, 0}, {at_own_ret, 0, 100, 0},
+        {at_own_call, 0, 257, 0}, {at_own_jrcxz, 0, 257, 0}, {at_own_ret, 0, 100, 0},
     };
     size_t k;
     unsigned long loops = 0;
@@ -513,11 +513,12 @@ static int try_owns(void)
             loops++;
     good = try_own(at_own_loop, "near", FEDDURZAI_HOOK_ALLOW_LOOPS, 0, loops);
     good = try_own(at_own_loop, "far", FEDDURZAI_HOOK_ALLOW_LOOPS | FEDDURZAI_HOOK_FAR, 0, loops) && good;
-    good = try_own(at_own_call, "near", 0, FEDDURZAI_HOOK_CALL, 0) && good;
+    good = try_own(at_own_call, "near", FEDDURZAI_HOOK_PLAIN_CALLS, FEDDURZAI_HOOK_CALL, 0) && good;
+    good = try_own(at_own_call, "near", FEDDURZAI_HOOK_PLAIN_CALLS | FEDDURZAI_HOOK_ALLOW_CALLS, 0, 257) && good;
     good = try_own(at_own_entered, "near", 0, FEDDURZAI_ENTERED, 0) && good;
     good = good && hooks[at_own_entered].parts.at == 6 && hooks[at_own_entered].parts.target == 2;
     printf("own: a short branch inside, a loop to the start, an operand at RIP, a call, jrcxz and a single return hooked, near and far;\n"
-           "    far, the operand at RIP is refused; a function whose loop enters its first bytes is refused, and a call if it is not allowed\n");
+           "    far, the operand at RIP is refused; a function whose loop enters its first bytes is refused, and a call that is to stay one\n");
     return good;
 }
 

@@ -86,30 +86,6 @@ static uint64_t distance(uint64_t a, uint64_t b)
 
 /* ---- the parts of a hook ------------------------------------------------------------------------------------ */
 
-/* A taken instruction. */
-struct seen {
-    feddurzai_instr instr;
-    feddurzai_about about;
-    uint64_t len;
-};
-
-/* Decodes the instruction at an offset of the code. Returns 0 if there is none. */
-static int see(uint32_t bits, uint64_t ip, const uint8_t *code, size_t len, uint64_t at, struct seen *seen)
-{
-    int32_t n = feddurzai_decode(bits, ip + at, code + at, len - (size_t)at, &seen->instr);
-    if (n < 0 || feddurzai_info(&seen->instr, &seen->about) < 0)
-        return 0;
-    seen->len = (uint64_t)n;
-    return 1;
-}
-
-/* CALL in any form; SYSCALL has the same flow, but pushes nothing */
-static int is_call(const struct seen *seen)
-{
-    char name[FEDDURZAI_MAX_TEXT];
-    return feddurzai_name(seen->instr.code, name, sizeof name) > 0 && strncmp(name, "call", 4) == 0;
-}
-
 /* the distance from the function's start to an address, in the address space of the mode */
 static uint64_t offset_of(uint32_t bits, uint64_t ip, uint64_t address)
 {
@@ -123,20 +99,19 @@ static int32_t refuse(feddurzai_hook_parts *parts, int32_t said, uint64_t at, ui
     return said;
 }
 
-/* checks the taken instructions */
-static int32_t check_taken(uint32_t bits, uint64_t ip, const uint8_t *code, size_t len, uint32_t flags,
-    feddurzai_hook_parts *parts)
+/* checks that no taken instruction accesses memory in the taken bytes, where the patch will be */
+static int32_t check_operands(uint32_t bits, uint64_t ip, const uint8_t *code, size_t len, feddurzai_hook_parts *parts)
 {
-    struct seen seen;
     int k;
     for (k = 0; k < parts->count; k++) {
         uint64_t at = parts->taken_at[k], to;
-        if (!see(bits, ip, code, len, at, &seen))
+        feddurzai_instr instr;
+        feddurzai_about about;
+        if (feddurzai_decode(bits, ip + at, code + at, len - (size_t)at, &instr) < 0 || feddurzai_info(&instr, &about) < 0)
             continue;
-        if (is_call(&seen) && !(flags & FEDDURZAI_HOOK_ALLOW_CALLS))
-            return refuse(parts, FEDDURZAI_HOOK_CALL, at, 0);
-        to = offset_of(bits, ip, seen.about.ip_address);
-        if (seen.about.has_ip_address && to < parts->detour.taken && (to != 0 || !(flags & FEDDURZAI_HOOK_ALLOW_LOOPS)))
+        to = offset_of(bits, ip, about.ip_address);
+        /* LEA has no size: it accesses nothing */
+        if (about.has_ip_address && about.memory_size > 0 && to < parts->detour.taken)
             return refuse(parts, FEDDURZAI_HOOK_OWN_BYTES, at, to);
     }
     return 0;
@@ -145,16 +120,34 @@ static int32_t check_taken(uint32_t bits, uint64_t ip, const uint8_t *code, size
 /* a refusal of the library by the statuses of this file, where it has one of its own */
 static int32_t own_status(int32_t said, const feddurzai_detour_report *report)
 {
-    if (said == FEDDURZAI_ENTERED && report->target == 0)
-        return FEDDURZAI_HOOK_LOOP;
-    return said == FEDDURZAI_UNSEEN ? FEDDURZAI_HOOK_UNSEEN : said;
+    switch (said) {
+    case FEDDURZAI_ENTERED:
+        return report->target == 0 ? FEDDURZAI_HOOK_LOOP : said;
+    case FEDDURZAI_UNSEEN:
+        return FEDDURZAI_HOOK_UNSEEN;
+    case FEDDURZAI_CALLS:
+        return FEDDURZAI_HOOK_CALL;
+    default:
+        return said;
+    }
+}
+
+static uint32_t rules_of(uint32_t flags)
+{
+    uint32_t rules = 0;
+    if (flags & FEDDURZAI_HOOK_NEED_SIGHT)
+        rules += FEDDURZAI_RULE_WHOLE;
+    if (!(flags & FEDDURZAI_HOOK_PLAIN_CALLS))
+        rules += FEDDURZAI_RULE_RETURNS;
+    if (!(flags & FEDDURZAI_HOOK_ALLOW_CALLS))
+        rules += FEDDURZAI_RULE_NO_CALLS;
+    return rules;
 }
 
 int32_t feddurzai_hook_make(uint32_t bits, uint64_t ip, const uint8_t *code, size_t len, uint64_t to, uint64_t place,
     uint32_t flags, feddurzai_hook_parts *parts)
 {
     uint32_t start = flags & FEDDURZAI_HOOK_ALLOW_LOOPS ? FEDDURZAI_START_HOOKED : FEDDURZAI_START_MOVED;
-    uint32_t whole = flags & FEDDURZAI_HOOK_NEED_SIGHT;
     feddurzai_moved_start moved[FEDDURZAI_MAX_PATCH];
     feddurzai_hook_report report;
     int32_t said;
@@ -162,8 +155,8 @@ int32_t feddurzai_hook_make(uint32_t bits, uint64_t ip, const uint8_t *code, siz
         return FEDDURZAI_NULL;
     memset(parts, 0, sizeof *parts);
     parts->place = place;
-    said = feddurzai_detour_with(bits, ip, code, len, to, place, start, whole, NULL, 0, parts->patch, sizeof parts->patch,
-        parts->trampoline, sizeof parts->trampoline, moved, FEDDURZAI_MAX_PATCH, &report);
+    said = feddurzai_detour_with(bits, ip, code, len, to, place, start, rules_of(flags), NULL, 0, parts->patch,
+        sizeof parts->patch, parts->trampoline, sizeof parts->trampoline, moved, FEDDURZAI_MAX_PATCH, &report);
     if (said == FEDDURZAI_NULL)
         return said;
     parts->detour = report.detour;
@@ -177,7 +170,7 @@ int32_t feddurzai_hook_make(uint32_t bits, uint64_t ip, const uint8_t *code, siz
     }
     if (code[0] == INT3)
         return refuse(parts, FEDDURZAI_HOOK_BREAKPOINT, 0, 0);
-    return check_taken(bits, ip, code, len, flags, parts);
+    return check_operands(bits, ip, code, len, parts);
 }
 
 /* ---- the table ---------------------------------------------------------------------------------------------- */
@@ -1530,8 +1523,8 @@ const char *feddurzai_hook_error_text(int32_t said)
     case FEDDURZAI_HOOK_MISSING: return "the function has no hook";
     case FEDDURZAI_HOOK_OVERLAPS: return "the hook would overwrite a part of another hook";
     case FEDDURZAI_HOOK_BREAKPOINT: return "the function begins with INT3, a breakpoint";
-    case FEDDURZAI_HOOK_CALL: return "a CALL would be overwritten, and then push an address in the trampoline";
-    case FEDDURZAI_HOOK_OWN_BYTES: return "an overwritten instruction has an operand in the overwritten bytes";
+    case FEDDURZAI_HOOK_CALL: return "a CALL would be overwritten, and would push an address in the trampoline";
+    case FEDDURZAI_HOOK_OWN_BYTES: return "an overwritten instruction accesses the overwritten bytes";
     case FEDDURZAI_HOOK_LOOP: return "a branch goes back to the start of the function, and would reach the replacement";
     case FEDDURZAI_HOOK_UNSEEN: return "control cannot be followed through the whole function";
     case FEDDURZAI_HOOK_NO_PAGE: return "there are no pages for the trampoline";

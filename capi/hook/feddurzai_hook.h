@@ -58,8 +58,8 @@ enum {
     FEDDURZAI_HOOK_OVERLAPS = -1006,        /* the patch would overwrite a part of another hook's patch */
     /* of the function's code */
     FEDDURZAI_HOOK_BREAKPOINT = -1007,      /* the function begins with INT3 */
-    FEDDURZAI_HOOK_CALL = -1008,            /* a CALL is among the taken instructions: at */
-    FEDDURZAI_HOOK_OWN_BYTES = -1009,       /* an operand at RIP or EIP names the taken bytes: at, target */
+    FEDDURZAI_HOOK_CALL = -1008,            /* a CALL is taken that cannot push its own return address: at */
+    FEDDURZAI_HOOK_OWN_BYTES = -1009,       /* a taken instruction accesses the taken bytes: at, target */
     FEDDURZAI_HOOK_LOOP = -1010,            /* a branch behind the taken instructions goes to the start: at */
     FEDDURZAI_HOOK_UNSEEN = -1011,          /* control cannot be followed from this offset on: at; and why: target,
                                                FEDDURZAI_SIGHT_NOT_READ .. */
@@ -79,15 +79,18 @@ enum {
 
 /* Flags of an install, to be added. 0 is the careful choice. */
 enum {
-    FEDDURZAI_HOOK_ALLOW_CALLS = 1,     /* a CALL may be taken. The callee then sees a return address in the trampoline:
-                                           exceptions and unwinders do not pass it, and a thunk that returns its own
-                                           address is wrong. The calling thread must not be in that call */
+    FEDDURZAI_HOOK_ALLOW_CALLS = 1,     /* any CALL may be taken. The last one pushes its own return address; what any
+                                           other one calls sees a return address in the trampoline: exceptions and
+                                           unwinders do not pass it, and a thunk that returns its own address is wrong.
+                                           The calling thread must not be in that call */
     FEDDURZAI_HOOK_ALLOW_LOOPS = 2,     /* a branch to the start may exist, and reaches the replacement each time */
     FEDDURZAI_HOOK_NEED_SIGHT = 4,      /* refuse what control cannot be followed through (FEDDURZAI_HOOK_UNSEEN) */
     FEDDURZAI_HOOK_DISABLED = 8,        /* install the hook, but leave it disabled */
     FEDDURZAI_HOOK_FAR = 16,            /* for tests: the trampoline is out of reach. If the replacement is, too, the
                                            patch has 14 bytes */
-    FEDDURZAI_HOOK_ALONE = 32           /* the caller says that no other thread runs the function during any change */
+    FEDDURZAI_HOOK_ALONE = 32,          /* the caller says that no other thread runs the function during any change */
+    FEDDURZAI_HOOK_PLAIN_CALLS = 64     /* a CALL stays one, also the last: for a process with a shadow stack (CET),
+                                           where RET to an address that no CALL pushed faults */
 };
 
 /* The longest trampoline of a hook, in bytes. */
@@ -117,11 +120,11 @@ typedef struct feddurzai_hook_parts {
  * but *parts, and works for code of any mode and any process.
  *
  *  - bits, ip, code, len, to, place: as in feddurzai_detour_with. `code` has the program's own bytes.
- *  - flags: FEDDURZAI_HOOK_ALLOW_CALLS, _ALLOW_LOOPS and _NEED_SIGHT count.
+ *  - flags: FEDDURZAI_HOOK_ALLOW_CALLS, _ALLOW_LOOPS, _NEED_SIGHT and _PLAIN_CALLS count.
  *
- * Returns 0, or a status of feddurzai_detour_with, but FEDDURZAI_HOOK_LOOP for FEDDURZAI_ENTERED with the target 0, and
- * FEDDURZAI_HOOK_UNSEEN for FEDDURZAI_UNSEEN; then FEDDURZAI_HOOK_BREAKPOINT, or _CALL and _OWN_BYTES for the first
- * taken instruction to which one applies.
+ * Returns 0, or a status of feddurzai_detour_with, but FEDDURZAI_HOOK_LOOP for FEDDURZAI_ENTERED with the target 0,
+ * FEDDURZAI_HOOK_CALL for FEDDURZAI_CALLS, and FEDDURZAI_HOOK_UNSEEN for FEDDURZAI_UNSEEN; then FEDDURZAI_HOOK_BREAKPOINT,
+ * or _OWN_BYTES for the first taken instruction to which it applies.
  */
 int32_t feddurzai_hook_make(uint32_t bits, uint64_t ip, const uint8_t *code, size_t len, uint64_t to, uint64_t place,
     uint32_t flags, feddurzai_hook_parts *parts);

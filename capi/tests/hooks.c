@@ -59,18 +59,21 @@ static const struct code codes[] = {
     {CODE(64, "\x80\x3f\x00\x74\x05\x48\xff\xc7\xeb\xf6\xc3"), 0, FEDDURZAI_HOOK_LOOP, 8, 0, 0},
     {CODE(64, "\x80\x3f\x00\x74\x05\x48\xff\xc7\xeb\xf6\xc3"), FEDDURZAI_HOOK_ALLOW_LOOPS, 0, 0, 0, 11},
     {CODE(64, "\x80\x3f\x00\x74\x08\x48\xff\xc7\xe8\xf3\xff\xff\xff\xc3"), 0, 0, 0, 0, 14},
-    /* lea rbx, [rip-7]: the base of code that is position-independent */
-    {CODE(64, "\x53\x48\x8d\x1d\xf9\xff\xff\xff\x5b\xc3"), 0, FEDDURZAI_HOOK_OWN_BYTES, 1, 1, 0},
-    {CODE(64, "\x53\x48\x8d\x1d\xf7\xff\xff\xff\x5b\xc3"), 0, 0, 0, 0, 10},
-    {CODE(64, "\x53\x48\x8d\x1d\xf8\xff\xff\xff\x5b\xc3"), 0, FEDDURZAI_HOOK_OWN_BYTES, 1, 0, 0},
-    {CODE(64, "\x53\x48\x8d\x1d\xf8\xff\xff\xff\x5b\xc3"), FEDDURZAI_HOOK_ALLOW_LOOPS, 0, 0, 0, 10},
-    {CODE(64, "\x53\x48\x8d\x1d\x00\x00\x00\x00\x5b\xc3"), 0, 0, 0, 0, 10},
+    /* lea rbx, [rip-7]: the base of code that is position-independent. It may be in the taken bytes, which mov reads */
+    {CODE(64, "\x53\x48\x8d\x1d\xf9\xff\xff\xff\x5b\xc3"), 0, 0, 0, 0, 10},
+    {CODE(64, "\x53\x48\x8b\x1d\xf9\xff\xff\xff\x5b\xc3"), 0, FEDDURZAI_HOOK_OWN_BYTES, 1, 1, 0},
+    {CODE(64, "\x53\x48\x8b\x1d\xf8\xff\xff\xff\x5b\xc3"), FEDDURZAI_HOOK_ALLOW_LOOPS, FEDDURZAI_HOOK_OWN_BYTES, 1, 0, 0},
+    {CODE(64, "\x53\x48\x8b\x1d\xf7\xff\xff\xff\x5b\xc3"), 0, 0, 0, 0, 10},
+    {CODE(64, "\x53\x48\x8b\x1d\x00\x00\x00\x00\x5b\xc3"), 0, 0, 0, 0, 10},
     /* 32-bit: push esi; call a thunk; add esi, .. */
-    {CODE(32, "\x56\xe8\x00\x10\x00\x00\x81\xc6\x00\x20\x00\x00\x5e\xc3"), 0, FEDDURZAI_HOOK_CALL, 1, 0, 0},
-    {CODE(32, "\x56\xe8\x00\x10\x00\x00\x81\xc6\x00\x20\x00\x00\x5e\xc3"), FEDDURZAI_HOOK_ALLOW_CALLS, 0, 0, 0, 14},
-    /* calls in other forms; a system call is none */
+    {CODE(32, "\x56\xe8\x00\x10\x00\x00\x81\xc6\x00\x20\x00\x00\x5e\xc3"), 0, 0, 0, 0, 14},
+    {CODE(32, "\x56\xe8\x00\x10\x00\x00\x81\xc6\x00\x20\x00\x00\x5e\xc3"), FEDDURZAI_HOOK_PLAIN_CALLS, FEDDURZAI_HOOK_CALL, 1, 0, 0},
+    {CODE(32, "\x56\xe8\x00\x10\x00\x00\x81\xc6\x00\x20\x00\x00\x5e\xc3"), FEDDURZAI_HOOK_PLAIN_CALLS + FEDDURZAI_HOOK_ALLOW_CALLS,
+        0, 0, 0, 14},
+    /* calls in other forms: the first is not the last taken one; a system call is none */
     {CODE(64, "\x53\xff\xd0\x5b\x48\x31\xc0\xc3"), 0, FEDDURZAI_HOOK_CALL, 1, 0, 0},
-    {CODE(64, "\x53\xff\x15\x00\x10\x00\x00\x5b\xc3"), 0, FEDDURZAI_HOOK_CALL, 1, 0, 0},
+    {CODE(64, "\x53\xff\xd0\x5b\x48\x31\xc0\xc3"), FEDDURZAI_HOOK_ALLOW_CALLS, 0, 0, 0, 8},
+    {CODE(64, "\x53\xff\x15\x00\x10\x00\x00\x5b\xc3"), 0, 0, 0, 0, 9},
     {CODE(64, "\x31\xc0\x0f\x05\x48\xff\xc0\xc3"), 0, 0, 0, 0, 8},
     /* a breakpoint, and what feddurzai_detour refuses */
     {CODE(64, "\xcc\x48\x89\xe5\x31\xc0\x5d\xc3"), 0, FEDDURZAI_HOOK_BREAKPOINT, 0, 0, 0},

@@ -2,9 +2,9 @@
  * Hooks functions of a 32-bit program in its file: NAME by `hooked_NAME`, for each symbol of that form. The patches and the
  * trampolines are those of feddurzai_hook_make with the mode 32.
  *
- *   hooks32 PROGRAM OUT [calls]
+ *   hooks32 PROGRAM OUT [plain]
  *
- * PROGRAM is tests/hooked32.c, not position-independent as a whole. `calls` allows calls among the taken instructions. Each
+ * PROGRAM is tests/hooked32.c, not position-independent as a whole. `plain` leaves each call as it is, and allows it. Each
  * line that is printed has the name of a function, and what was done, or why not.
  */
 #include "feddurzai_hook.h"
@@ -77,7 +77,7 @@ int main(int count, char **words)
 {
     const Elf32_Sym *symbol = NULL;
     const char *whole;
-    uint32_t place, flags = count > 3 && strcmp(words[3], "calls") == 0 ? FEDDURZAI_HOOK_ALLOW_CALLS : 0;
+    uint32_t place, flags = count > 3 && strcmp(words[3], "plain") == 0 ? FEDDURZAI_HOOK_ALLOW_CALLS | FEDDURZAI_HOOK_PLAIN_CALLS : 0;
     FILE *in = count > 2 ? fopen(words[1], "rb") : NULL, *out;
     int hooked = 0;
     if (in == NULL || (file_len = fread(file, 1, MOST, in)) < sizeof(Elf32_Ehdr) || file[EI_CLASS] != ELFCLASS32)

@@ -1,7 +1,8 @@
 /*
  * C++ exceptions and hooks: an exception of the original passes the replacement, whose destructors run, and is caught behind
- * the hook; a replacement throws one itself. A function whose CALL would be taken is refused. If that is allowed all the
- * same, calls work, but an exception of the callee ends the program, since no unwind information covers the trampoline.
+ * the hook; a replacement throws one itself. Where a CALL is taken as the last instruction, it pushes its own return address,
+ * and an exception of the callee passes. If it stays a CALL, calls work, but an exception of the callee ends the program, since
+ * no unwind information covers the trampoline.
  *
  * Linux on x86-64. Compile feddurzai_hook.c as C, and link it.
  */
@@ -118,9 +119,17 @@ int main()
     feddurzai_hook_options options = {(size_t)(begins_with_call_end - (const uint8_t *)FEDDURZAI_HOOK_ADDRESS(begins_with_call)), 0, nullptr};
     void *target = FEDDURZAI_HOOK_ADDRESS(begins_with_call), *replacement = FEDDURZAI_HOOK_ADDRESS(passes_on);
     CHECK(result_of(function, 400), -400);
+    destroyed = 0;
+    CHECK(feddurzai_hook_install_with(target, replacement, &original, &options), 0);
+    CHECK(result_of(function, 40), 1020);
+    CHECK(destroyed, 2);
+    CHECK(result_of(function, 400), -400);
+    CHECK(destroyed, 4);
+    CHECK(feddurzai_hook_remove(target), 0);
+    options.flags = FEDDURZAI_HOOK_PLAIN_CALLS;
     CHECK(feddurzai_hook_install_with(target, replacement, &original, &options), FEDDURZAI_HOOK_CALL);
     CHECK(result_of(function, 400), -400);
-    options.flags = FEDDURZAI_HOOK_ALLOW_CALLS;
+    options.flags = FEDDURZAI_HOOK_PLAIN_CALLS | FEDDURZAI_HOOK_ALLOW_CALLS;
     CHECK(feddurzai_hook_install_with(target, replacement, &original, &options), 0);
     CHECK(result_of(function, 40), 1020);
     CHECK(aborts(function, 400), 1);
