@@ -1,6 +1,6 @@
 //! Where the moved instructions begin, in the function and in the trampoline.
 
-ghost use Rattle.std.specs.Prelude.{◌≡◌, ◌*◌, ◌<◌, ◌≤◌, length, IfOk};
+ghost use Rattle.std.specs.Prelude.{◌≡◌, ◌<◌, ◌≤◌, length, IfOk};
 ghost use Rattle.detour.specs.Reading.{AreCoded};
 ghost use Rattle.detour.specs.Taken as taken_spec;
 ghost use Rattle.detour.specs.Starts as spec;
