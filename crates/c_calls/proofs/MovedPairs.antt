@@ -18,17 +18,19 @@ use Rattle.c_calls.specs.Ruled.{IsRuledAnswerBy}
 same-length : (items : List Placed) (place : ℕ) (m : MovedLists) → length (places_of items place m) ≡ length (starts_of items)
 unfolding starts_to, places_to
 same-length items place m =
-    length-map-range_with_len (place_at m.starts place) 0 (moved_count items) ∙ sym (length-map-range_with_len (offset_at items) 0 (moved_count items))
+    length-map-range_with_len (place_at m.starts place) 0 (moved_count items)
+    ∙ sym (length-map-range_with_len (offset_at items) 0 (moved_count items))
 
 -- so they do in a detour
-detour-pairs : (bits : Bits) (ip : ℕ) (code : List ℕ) (to place : ℕ) (start : StartTarget) (d : DetourState) → IsDetour bits ip code to place start d
-    → length d.places ≡ length d.starts
+detour-pairs : (bits : Bits) (ip : ℕ) (code : List ℕ) (to place : ℕ) (start : StartTarget) (d : DetourState)
+    → IsDetour bits ip code to place start d → length d.places ≡ length d.starts
 detour-pairs bits ip code to place start d is =
     ap length is.places ∙ (same-length is.items place is.moved ∙ sym (ap length is.starts))
 
 -- **there are as many places as starts**
-pub moved-pairs : (bits : Option Bits) (start : Option StartTarget) (ip : ℕ) (code : List ℕ) (to place : ℕ) (entries : List ℕ) (whole : Bool)
-    (answer : Result SeenDetour RuledRefusal) → IsRuledAnswerBy bits start ip code to place entries whole answer
+pub moved-pairs : (bits : Option Bits) (start : Option StartTarget) (ip : ℕ) (code : List ℕ) (to place : ℕ)
+    (entries : List ℕ) (whole : Bool) (answer : Result SeenDetour RuledRefusal)
+    → IsRuledAnswerBy bits start ip code to place entries whole answer
     → IfOk answer (λ seen. length seen.detour.places ≡ length seen.detour.starts)
 moved-pairs bits start ip code to place entries whole (Err e) h = tt
 moved-pairs None start ip code to place entries whole (Ok seen) h = absurd cc

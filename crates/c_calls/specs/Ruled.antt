@@ -28,7 +28,8 @@ asks_whole n = not (n == 0)
 
 -- the detour with what is seen, or why there is none: more than 1,048,576 bytes, or a cause of the rules
 abbrev pub IsRuledIn : Bits → ℕ → List ℕ → ℕ → ℕ → StartTarget → List ℕ → Bool → Result SeenDetour RuledRefusal → Type 0
-IsRuledIn bits ip code to place start entries whole (Ok seen) = (length code ≤ 1048576) × IsRuledAnswer bits ip code to place start entries whole (Ok seen)
+IsRuledIn bits ip code to place start entries whole (Ok seen) =
+    (length code ≤ 1048576) × IsRuledAnswer bits ip code to place start entries whole (Ok seen)
 IsRuledIn bits ip code to place start entries whole (Err TooLarge) = 1048576 < length code
 IsRuledIn bits ip code to place start entries whole (Err (NoDetour cause)) =
     (length code ≤ 1048576) × IsRuledAnswer bits ip code to place start entries whole (Err cause)
@@ -37,10 +38,12 @@ IsRuledIn bits ip code to place start entries whole (Err Start) = ⊥
 IsRuledIn bits ip code to place start entries whole (Err Room) = ⊥
 
 -- what a detour by rules answers, where the numbers of the mode and of what becomes of the start name one each
-abbrev pub IsRuledAnswerBy : Option Bits → Option StartTarget → ℕ → List ℕ → ℕ → ℕ → List ℕ → Bool → Result SeenDetour RuledRefusal → Type 0
+abbrev pub IsRuledAnswerBy : Option Bits → Option StartTarget → ℕ → List ℕ → ℕ → ℕ → List ℕ → Bool
+    → Result SeenDetour RuledRefusal → Type 0
 IsRuledAnswerBy None start ip code to place entries whole answer = answer ≡ Err Mode
 IsRuledAnswerBy (Some bits) None ip code to place entries whole answer = answer ≡ Err Start
-IsRuledAnswerBy (Some bits) (Some start) ip code to place entries whole answer = IsRuledIn bits ip code to place start entries whole answer
+IsRuledAnswerBy (Some bits) (Some start) ip code to place entries whole answer =
+    IsRuledIn bits ip code to place start entries whole answer
 
 -- ---- the moved instructions
 
@@ -57,7 +60,8 @@ moved_starts starts places n = map (moved_start starts places) (range_with_len 0
 -- the three rooms hold what they are for
 unfoldable pub ruled_within : ℕ → ℕ → ℕ → Result SeenDetour RuledRefusal → Result SeenDetour RuledRefusal
 ruled_within room other third (Ok seen) =
-    if nat_le (length seen.detour.patch) room && nat_le (length seen.detour.trampoline) other && nat_le (length seen.detour.starts) third then Ok seen else Err Room
+    if nat_le (length seen.detour.patch) room && nat_le (length seen.detour.trampoline) other
+    && nat_le (length seen.detour.starts) third then Ok seen else Err Room
 ruled_within room other third (Err e) = Err e
 
 -- why the rules give no detour, by the refusals of all calls
@@ -125,18 +129,24 @@ abbrev pub refusal_report : RuledRefusal → FlatDetour
 refusal_report (NoDetour cause) = rule_report cause
 refusal_report _ = no_detour
 
--- those of the detour, what is seen, and how many instructions are moved, also where a room does not hold them; or those of the refusal
+-- those of the detour, what is seen, and how many instructions are moved, also where a room does not hold them; or
+-- those of the refusal
 abbrev pub ruled_report : Result SeenDetour RuledRefusal → FlatHook
-ruled_report (Ok seen) = record { detour = detour_report seen.detour; view = flat_view seen.view; moved = length seen.detour.starts }
+ruled_report (Ok seen) = record {
+  detour = detour_report seen.detour;
+  view = flat_view seen.view;
+  moved = length seen.detour.starts;
+}
 ruled_report (Err e) = record { detour = refusal_report e; view = no_view; moved = 0 }
 
 -- what the call says and leaves
-pub record IsRuledCall (bits ip : ℕ) (code : List ℕ) (to place start whole : ℕ) (entries patch patch' trampoline trampoline' : List ℕ)
-    (moved moved' : List FlatMovedStart) (report : FlatHook) (said : ℤ) : Type 0 where
+pub record IsRuledCall (bits ip : ℕ) (code : List ℕ) (to place start whole : ℕ) (entries patch patch' trampoline
+    trampoline' : List ℕ) (moved moved' : List FlatMovedStart) (report : FlatHook) (said : ℤ) : Type 0 where
   pub answer : Result SeenDetour RuledRefusal
   pub is : IsRuledAnswerBy (bits_numbered bits) (start_numbered start) ip code to place entries (asks_whole whole) answer
   pub said_is : said ≡ ruled_said (ruled_within (length patch) (length trampoline) (length moved) answer)
   pub patch_is : patch' ≡ patch_left patch (ruled_within (length patch) (length trampoline) (length moved) answer)
-  pub trampoline_is : trampoline' ≡ trampoline_left trampoline (ruled_within (length patch) (length trampoline) (length moved) answer)
+  pub trampoline_is : trampoline'
+      ≡ trampoline_left trampoline (ruled_within (length patch) (length trampoline) (length moved) answer)
   pub moved_is : moved' ≡ moved_left moved (ruled_within (length patch) (length trampoline) (length moved) answer)
   pub report_is : report ≡ ruled_report answer
