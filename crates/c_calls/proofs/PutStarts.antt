@@ -18,7 +18,8 @@ counts_next f old k h =
     let here : k ≡ 0 + k = omega arith in
     let room = map f (range_with_len 0 k) ++ drop k old in
     ap (λ n. set room k (f n)) here
-    ∙ subst (λ n. set room k (f (0 + k)) ≡ map f (range_with_len 0 n) ++ drop n old) (sym (add-one k)) (counts f 0 old k h)
+    ∙ subst (λ n. set room k (f (0 + k)) ≡ map f (range_with_len 0 n) ++ drop n old) (sym (add-one k))
+    (counts f 0 old k h)
 
 -- the same where room and value are given by equations
 pub counts_at : {A : Type 0} (f : ℕ → A) (old : List A) (k : ℕ) (v : A) (room : List A) → v ≡ f k →

@@ -97,7 +97,8 @@ trampoline_left old (Err e) = old
 -- the room of the moved instructions, likewise
 abbrev pub moved_left : List FlatMovedStart → Result SeenDetour RuledRefusal → List FlatMovedStart
 moved_left old (Ok seen) =
-    moved_starts seen.detour.starts seen.detour.places (length seen.detour.starts) ++ drop (length seen.detour.starts) old
+    moved_starts seen.detour.starts seen.detour.places (length seen.detour.starts)
+    ++ drop (length seen.detour.starts) old
 moved_left old (Err e) = old
 
 -- ---- the report
@@ -143,7 +144,8 @@ ruled_report (Err e) = record { detour = refusal_report e; view = no_view; moved
 pub record IsRuledCall (bits ip : ℕ) (code : List ℕ) (to place start whole : ℕ) (entries patch patch' trampoline
     trampoline' : List ℕ) (moved moved' : List FlatMovedStart) (report : FlatHook) (said : ℤ) : Type 0 where
   pub answer : Result SeenDetour RuledRefusal
-  pub is : IsRuledAnswerBy (bits_numbered bits) (start_numbered start) ip code to place entries (asks_whole whole) answer
+  pub is : IsRuledAnswerBy (bits_numbered bits) (start_numbered start) ip code to place entries (asks_whole whole)
+      answer
   pub said_is : said ≡ ruled_said (ruled_within (length patch) (length trampoline) (length moved) answer)
   pub patch_is : patch' ≡ patch_left patch (ruled_within (length patch) (length trampoline) (length moved) answer)
   pub trampoline_is : trampoline'
