@@ -6,4 +6,6 @@ pub mod Through
 pub mod OnePlace
 pub mod ReadBack
 pub mod Made
+pub mod Listed
+pub mod Ruling
 pub mod HookSlots

@@ -1,5 +1,5 @@
 -- The plan of a trampoline is well formed.
-use Rattle.std.proofs.Common.{◌≡◌, ℕ, zero, suc, ◌+◌, ◌<◌, ◌≤◌, inl, inr, true, List, [], ◌∷◌, ◌++◌, length, map, Option, Some, None, arith, refl, sym, subst, ap, nat_lt, ◌^◌, take}
+use Rattle.std.proofs.Common.{◌≡◌, ℕ, zero, suc, ◌+◌, ◌<◌, ◌≤◌, inl, inr, true, List, [], ◌∷◌, ◌++◌, length, map, Option, Some, None, arith, refl, sym, subst, ap, nat_lt, not, ◌^◌, take}
 use Rattle.std.specs.Prelude.{if◌then◌else◌, is_some, IsTrue}
 use Rattle.std.specs.List.{list_all, range_with_len}
 use Rattle.std.proofs.lemmas.Bool.{cases_Bool, lt-ltb}
@@ -20,7 +20,8 @@ use Rattle.detour.specs.LawsBelow.{DetourLawsBelow}
 use Rattle.detour.specs.declared.start.StartTarget.{StartTarget}
 use Rattle.detour.specs.declared.start.StartTarget.TheVariants.{Moved, Hooked}
 use Rattle.detour.specs.Trampoline.{address_behind_taken, jump_back, back_items, block_items, trampoline_goal_among, moved_goal, trampoline_goal_at, plan_at}
-use Rattle.detour.specs.Taken.{taken_bytes, first_end, moved_count}
+use Rattle.move_goals.specs.Facts.{FirstFacts}
+use Rattle.detour.specs.Taken.{taken_bytes, item_goes_on, first_end, count_to, moved_count}
 use Rattle.detour.proofs.Front.{each_more}
 use Rattle.detour.proofs.Jumping.{jump-placed}
 
@@ -57,6 +58,17 @@ module _ (laws : DetourLawsBelow) (bits : Bits) (items : List Placed) (count : �
       subst (λ (bs : List Branch). IsTrue (list_all (is_fit_branch (length bs)) bs)) (sym are) plan.fit
 
 -- ---- the instructions of a trampoline
+
+counted : (end : Option ℕ) (n : ℕ) → ((k : ℕ) → end ≡ Some k → k < n) → count_to end n ≤ n
+counted None n below = omega arith
+counted (Some k) n below = omega (arith, below k refl)
+
+-- no more are moved than are taken
+pub count_within : (firsts : FirstFacts) (items : List Placed) → moved_count items ≤ length items
+unfolding first_end
+count_within firsts items =
+    counted (first_end items) (length items)
+    (λ k e. (firsts.some_below (λ j. not (item_goes_on (item_at items j))) (length items) k e).0)
 
 -- those that are moved are there
 pub block_long : (bits : Bits) (ip : ℕ) (items : List Placed) → moved_count items ≤ length items → moved_count items ≤ length (block_items bits ip items)

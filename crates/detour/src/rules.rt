@@ -200,6 +200,22 @@ fn ruled(
 /// - `Unseen`: whole sight was asked for, and sight ends at this offset.
 ///
 /// `Detour(DetourError::Memory)` can replace any of them.
+///
+/// ```
+/// let (ip, to, place) = (0x40_1000, 0x50_0000, 0x60_0000);
+/// let seen = detour_with(
+///     rt.alloc(),
+///     Bits::B64,
+///     ip,
+///     &FUNCTION,
+///     to,
+///     place,
+///     StartTarget::Moved,
+///     &[],
+///     true,
+/// )?;
+/// println!(rt; "{:?} {:?}", seen.view.sight, seen.detour.place_of(4))?; // Whole Some(4)
+/// ```
 pub fn detour_with(
     alloc: Global,
     bits: Bits,

@@ -6,7 +6,7 @@ use feddurzai::decoding::{Decoder, Items, decode_in, read_items};
 use feddurzai::encoding::{encode, encoded_len};
 use feddurzai::flow::graph_of_code;
 use feddurzai::format::{Intel, Style, ascii_str, print_att};
-use feddurzai::hooks::{Hooks, StartRule, StartTarget, detour, look};
+use feddurzai::hooks::{Hooks, StartRule, StartTarget, detour, detour_with, look};
 use feddurzai::info::{
     Features, FlagSet, all_memory, all_registers, flags_of, laws, needed_features,
 };
@@ -201,6 +201,24 @@ fn see_function(rt: &HostRuntime) -> anyhow::Result<()> {
     Ok(())
 }
 
+/// Makes a patch and a trampoline if all of the function is seen and nothing enters the patch.
+fn hook_by_rules(rt: &HostRuntime) -> anyhow::Result<()> {
+    let (ip, to, place) = (0x40_1000, 0x50_0000, 0x60_0000);
+    let seen = detour_with(
+        rt.alloc(),
+        Bits::B64,
+        ip,
+        &FUNCTION,
+        to,
+        place,
+        StartTarget::Moved,
+        &[],
+        true,
+    )?;
+    println!(rt; "{:?} {:?}", seen.view.sight, seen.detour.place_of(4))?; // Whole Some(4)
+    Ok(())
+}
+
 /// Keeps a hook in a range of trampolines.
 fn keep_hook(rt: &HostRuntime) -> anyhow::Result<()> {
     let mut hooks = Hooks::make(rt.alloc(), Bits::B64, 0x60_0000, 4096, 64)?;
@@ -253,6 +271,7 @@ pub fn run(rt: &HostRuntime) -> anyhow::Result<()> {
     follow_control(rt)?;
     hook_function(rt)?;
     see_function(rt)?;
+    hook_by_rules(rt)?;
     keep_hook(rt)?;
     list_function(rt)
 }

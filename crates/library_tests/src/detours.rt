@@ -2,4 +2,5 @@
 
 mod compare;
 mod hook_tests;
+mod rule_tests;
 mod tests;

@@ -2,7 +2,7 @@ use Rattle.std.proofs.Common.{length, arith, ap}
 use Rattle.std.proofs.lemmas.List.FromFn.{length-map-range_with_len}
 use Rattle.branch_sizes.specs.Layout.{place}
 use Rattle.detour.specs.Trampoline.{IsTrampoline, block_items, trampoline_plan}
-use Rattle.detour.proofs.Planned.{block_some}
+use Rattle.detour.proofs.Planned.{block_long, block_some, count_within}
 use Rattle.detour.proofs.making.lay_detour.Goals as goal
 
 pub put_together-requires-clause-back : goal.put_together-requires-clause-back
@@ -13,3 +13,15 @@ put_together-requires-clause-back c goes =
     let count = length-map-range_with_len (place (trampoline_plan c.args.bits c.args.ip items c.args.place c.args.start) block.layout) 0 (length (block_items c.args.bits c.args.ip items)) in
     let some = block_some c.args.bits c.args.ip items goes in
     omega (arith, starts, count, some)
+
+pub put_together-requires-clause-within : goal.put_together-requires-clause-within
+put_together-requires-clause-within c =
+    let bits = c.args.bits in
+    let ip = c.args.ip in
+    let items = c.args.taken.now.items.items in
+    let block : IsTrampoline bits ip items c.args.place c.args.start c.in-Ok.moved = c.in-Ok.ensures in
+    let starts = ap length block.lists.starts in
+    let plan = trampoline_plan bits ip items c.args.place c.args.start in
+    let count = length-map-range_with_len (place plan block.layout) 0 (length (block_items bits ip items)) in
+    let long = block_long bits ip items (count_within c.first_numbers_pass.ensures items) in
+    omega (arith, starts, count, long)
