@@ -17,10 +17,12 @@ use Rattle.c_calls.specs.declared.ruled.RuledRefusal.{RuledRefusal}
 use Rattle.c_calls.specs.Ruled.{IsRuledAnswerBy}
 
 -- the two lists have one element for each moved instruction
-same-length : (items : List Placed) (place : ℕ) (m : MovedLists) → length (places_of items place m) ≡ length (starts_of items)
+same-length : (items : List Placed) (place : ℕ) (m : MovedLists)
+    → length (places_of items place m) ≡ length (starts_of items)
 unfolding starts_to, places_to
 same-length items place m =
-    length-map-range_with_len (place_at m.starts place) 0 (moved_count items) ∙ sym (length-map-range_with_len (offset_at items) 0 (moved_count items))
+    length-map-range_with_len (place_at m.starts place) 0 (moved_count items)
+    ∙ sym (length-map-range_with_len (offset_at items) 0 (moved_count items))
 
 -- so they do in a detour
 detour-pairs : (bits : Bits) (ip : ℕ) (code : List ℕ) (to place : ℕ) (rule : MoveRule) (d : DetourState) → IsDetour bits ip code to place rule d

@@ -60,7 +60,8 @@ moved_starts starts places n = map (moved_start starts places) (range_with_len 0
 -- the three rooms hold what they are for
 unfoldable pub ruled_within : ℕ → ℕ → ℕ → Result SeenDetour RuledRefusal → Result SeenDetour RuledRefusal
 ruled_within room other third (Ok seen) =
-    if nat_le (length seen.detour.patch) room && nat_le (length seen.detour.trampoline) other && nat_le (length seen.detour.starts) third then Ok seen else Err Room
+    if nat_le (length seen.detour.patch) room && nat_le (length seen.detour.trampoline) other
+    && nat_le (length seen.detour.starts) third then Ok seen else Err Room
 ruled_within room other third (Err e) = Err e
 
 -- why the rules give no detour, by the refusals of all calls
@@ -97,7 +98,8 @@ trampoline_left old (Err e) = old
 -- the room of the moved instructions, likewise
 abbrev pub moved_left : List FlatMovedStart → Result SeenDetour RuledRefusal → List FlatMovedStart
 moved_left old (Ok seen) =
-    moved_starts seen.detour.starts seen.detour.places (length seen.detour.starts) ++ drop (length seen.detour.starts) old
+    moved_starts seen.detour.starts seen.detour.places (length seen.detour.starts)
+    ++ drop (length seen.detour.starts) old
 moved_left old (Err e) = old
 
 -- ---- the report
@@ -148,6 +150,7 @@ pub record IsRuledCall (bits ip : ℕ) (code : List ℕ) (to place start rules :
   pub is : IsRuledAnswerBy (bits_numbered bits) (rules_numbered (start_numbered start) rules) ip code to place entries answer
   pub said_is : said ≡ ruled_said (ruled_within (length patch) (length trampoline) (length moved) answer)
   pub patch_is : patch' ≡ patch_left patch (ruled_within (length patch) (length trampoline) (length moved) answer)
-  pub trampoline_is : trampoline' ≡ trampoline_left trampoline (ruled_within (length patch) (length trampoline) (length moved) answer)
+  pub trampoline_is : trampoline'
+      ≡ trampoline_left trampoline (ruled_within (length patch) (length trampoline) (length moved) answer)
   pub moved_is : moved' ≡ moved_left moved (ruled_within (length patch) (length trampoline) (length moved) answer)
   pub report_is : report ≡ ruled_report answer

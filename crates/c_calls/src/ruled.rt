@@ -7,9 +7,7 @@ ghost use Rattle.c_calls.specs.Ruled as spec;
 
 use crate::buffers::write_front;
 use crate::flat::{FlatDetour, FlatHook, FlatMovedStart, FlatView};
-use crate::hooks::{
-    MOST, NOTHING, cause_report, detour_refusal, detour_report, start_numbered,
-};
+use crate::hooks::{MOST, NOTHING, cause_report, detour_refusal, detour_report, start_numbered};
 use crate::numbers::bits_numbered;
 use crate::refusal::{Refusal, refusal_status};
 use crate::sight::{end_number, flat_view};
@@ -87,9 +85,9 @@ fn rule_report(why: RuleError) -> FlatDetour
             target: target as u64,
             ..NOTHING
         },
-        RuleError::Unseen { at, why } => FlatDetour {
+        RuleError::Unseen { at, why: end } => FlatDetour {
             at: at as u64,
-            target: u64::from(end_number(why)),
+            target: u64::from(end_number(end)),
             ..NOTHING
         },
     }

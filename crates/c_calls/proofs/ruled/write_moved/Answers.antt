@@ -10,4 +10,5 @@ moved-init c = refl
 pub moved-preserved : goal.moved-preserved
 unfolding moved_starts
 moved-preserved c =
-    counts_at (moved_start c.args.starts.now c.args.places.now) c.args.room.now c.moved.k _ c.moved.room c.moved_start.ensures c.moved.invariant (omega arith)
+    counts_at (moved_start c.args.starts.now c.args.places.now) c.args.room.now c.moved.k _ c.moved.room
+    c.moved_start.ensures c.moved.invariant (omega arith)
