@@ -243,9 +243,13 @@ fn ruled(
 ///     &FUNCTION,
 ///     to,
 ///     place,
-///     StartTarget::Moved,
 ///     &[],
-///     true,
+///     HookRules {
+///         start: StartTarget::Moved,
+///         whole: true,
+///         returns: true,
+///         calls: false,
+///     },
 /// )?;
 /// println!(rt; "{:?} {:?}", seen.view.sight, seen.detour.place_of(4))?; // Whole Some(4)
 /// ```

@@ -6,7 +6,7 @@ use feddurzai::decoding::{Decoder, Items, decode_in, read_items};
 use feddurzai::encoding::{encode, encoded_len};
 use feddurzai::flow::graph_of_code;
 use feddurzai::format::{Intel, Style, ascii_str, print_att};
-use feddurzai::hooks::{Hooks, StartRule, StartTarget, detour, detour_with, look};
+use feddurzai::hooks::{HookRules, Hooks, StartRule, StartTarget, detour, detour_with, look};
 use feddurzai::info::{
     Features, FlagSet, all_memory, all_registers, flags_of, laws, needed_features,
 };
@@ -211,9 +211,13 @@ fn hook_by_rules(rt: &HostRuntime) -> anyhow::Result<()> {
         &FUNCTION,
         to,
         place,
-        StartTarget::Moved,
         &[],
-        true,
+        HookRules {
+            start: StartTarget::Moved,
+            whole: true,
+            returns: true,
+            calls: false,
+        },
     )?;
     println!(rt; "{:?} {:?}", seen.view.sight, seen.detour.place_of(4))?; // Whole Some(4)
     Ok(())
