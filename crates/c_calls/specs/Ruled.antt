@@ -27,7 +27,7 @@ use Rattle.c_calls.specs.Looking.{end_number, flat_view}
 unfoldable pub rules_numbered : Option StartTarget → ℕ → Option HookRules
 rules_numbered None n = None
 rules_numbered (Some start) n =
-    if nat_lt n 8 then Some (record { start = start; whole = n % 2 == 1; returns = n / 2 % 2 == 1; calls = n / 4 == 0 }) else None
+    if nat_lt n 8 then Some (record { start = start; whole = (n % 2) == 1; returns = ((n / 2) % 2) == 1; calls = (n / 4) == 0 }) else None
 
 -- the detour with what is seen, or why there is none: more than 1,048,576 bytes, or a cause of the rules
 abbrev pub IsRuledIn : Bits → ℕ → List ℕ → ℕ → ℕ → List ℕ → HookRules → Result SeenDetour RuledRefusal → Type 0

@@ -1,6 +1,6 @@
 //! The moved instructions and the jump back.
 
-ghost use Rattle.std.specs.Prelude.{◌≡◌, ◌<◌, ◌≤◌, None, Some, length, IfOk, IfSome};
+ghost use Rattle.std.specs.Prelude.{◌≡◌, ◌-◌, ◌<◌, ◌≤◌, ◌++◌, None, take, length, IfOk, IfSome};
 ghost use Rattle.move_goals.specs.Items.{ArePlaced, first_below};
 ghost use Rattle.move_goals.specs.Goals.{begins_at};
 ghost use Rattle.move_goals.specs.Plan.{branch_with};
@@ -32,12 +32,15 @@ pub(crate) fn pushed_last(rule: MoveRule, bits: Bits, taken: &Taken) -> Option<P
     ensures value { items_if result ≡ spec.pushed_last rule bits taken.now.items.items }
     ensures placed { IfSome result (λ call. ArePlaced bits (items_in call)) }
 {
-    if !(rule.returns && first_end(&taken.items).is_none()) {
+    if !rule.returns {
         return None;
     }
-    match taken.items.get(taken.items.len().saturating_sub(1)) {
-        None => None,
-        Some(item) => pushed_call(bits, item),
+    match first_end(&taken.items) {
+        Some(_) => None,
+        None => match taken.items.get(taken.items.len().saturating_sub(1)) {
+            None => None,
+            Some(item) => pushed_call(bits, item),
+        },
     }
 }
 
@@ -78,12 +81,10 @@ fn items_and_back(
 /// Returns the instructions before the last taken one, and what does that one.
 fn items_and_call(
     alloc: Global,
-    bits: Bits,
-    ip: u64,
     taken: &Taken,
     call: &PushedCall,
 ) -> Result<Vec<Placed>, AllocError>
-    ensures { IfOk result (λ items. items.items ≡ spec.block_by (Some (items_in call.now)) bits ip taken.now.items.items) }
+    ensures { IfOk result (λ items. items.items ≡ take (length taken.now.items.items - 1) taken.now.items.items ++ items_in call.now) }
 {
     let before = taken.items.len().saturating_sub(1);
     let mut items = Vec::new(alloc);
@@ -108,7 +109,7 @@ fn block_items(
 {
     match called {
         None => items_and_back(alloc, bits, ip, taken),
-        Some(call) => items_and_call(alloc, bits, ip, taken, call),
+        Some(call) => items_and_call(alloc, taken, call),
     }
 }
 
