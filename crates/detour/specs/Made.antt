@@ -43,7 +43,7 @@ abbrev pub IsFarJump : Bits → ℕ → ℕ → Option ℕ → Jump → Type 0
 IsFarJump bits ip to relay jump = IsFarJumpOf bits ip to relay jump.form jump.bytes.items jump.relay
 
 -- a detour is put together of what is taken and moved
-pub record IsPutTogether (to place : ℕ) (back : Bool) (call : Option ℕ) (jump : Jump) (t : Taken) (m : MovedLists) (d : DetourState) : Type 0 where
+pub record IsPutTogether (to place : ℕ) (back : Bool) (calling : Option ℕ) (jump : Jump) (t : Taken) (m : MovedLists) (d : DetourState) : Type 0 where
   pub form : d.form ≡ jump.form
   pub taken : d.taken ≡ t.len
   pub patch : d.patch ≡ patch_of jump.bytes.items t.len
@@ -51,7 +51,7 @@ pub record IsPutTogether (to place : ℕ) (back : Bool) (call : Option ℕ) (jum
   pub parts : d.parts ≡ parts_of back place m jump.relay
   pub starts : d.starts ≡ starts_of t.items.items
   pub places : d.places ≡ places_of t.items.items place m
-  pub call : d.call ≡ call
+  pub call : d.call ≡ calling
 
 -- what is taken is moved and put together, or not moved for this cause
 abbrev pub IsLaidBy : Bits → ℕ → ℕ → ℕ → MoveRule → Jump → Taken → DetourState → Type 0
