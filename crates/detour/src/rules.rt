@@ -46,7 +46,7 @@ impl From<DetourError> for RuleError {
     }
 }
 
-/// What is asked of a detour.
+/// What is required of a detour.
 #[derive(Clone, Copy, PartialEq, Eq, Debug)]
 pub struct HookRules {
     /// Where a moved branch goes whose target is the function's own first byte.
