@@ -133,7 +133,11 @@ fn sight_refusal(whole: bool, sight: Sight) -> Option<RuleError>
     match sight {
         Sight::Whole => None,
         Sight::Ends { at, why } => {
-            if whole { Some(RuleError::Unseen { at, why }) } else { None }
+            if whole {
+                Some(RuleError::Unseen { at, why })
+            } else {
+                None
+            }
         }
     }
 }
@@ -142,8 +146,9 @@ fn sight_refusal(whole: bool, sight: Sight) -> Option<RuleError>
 fn view_refusal(whole: bool, view: &View) -> Option<RuleError>
     ensures { result ≡ spec.view_refusal whole view.now }
 {
-    inside_refusal(view.inside)
-        .or(entered_refusal(view.entered).or(sight_refusal(whole, view.sight)))
+    let entered = entered_refusal(view.entered);
+    let unseen = sight_refusal(whole, view.sight);
+    inside_refusal(view.inside).or(entered.or(unseen))
 }
 
 /// The detour with what was seen, unless there is a cause against it.
