@@ -661,7 +661,7 @@ const TRAMPOLINES: &[(Case, &str, Option<u32>)] = &[
         None,
     ),
     // two NOPs; push 1007; mov dword [rsp+4], 0; jmp to the first NOP, or to the function
-    (RECURSION, "90906807100000c744240400000000ebef", None),
+    (RECURSION, "90906807100000c744240400000000e9ecffffff", None),
     (
         Case {
             start: StartTarget::Hooked,
