@@ -19,7 +19,7 @@ use Rattle.c_calls.specs.Ruled.{IsRuledAnswerBy}
 -- the two lists have one element for each moved instruction
 same-length : (items : List Placed) (place : ℕ) (m : MovedLists)
     → length (places_of items place m) ≡ length (starts_of items)
-unfolding starts_to, places_to
+unfolding starts_to places_to
 same-length items place m =
     length-map-range_with_len (place_at m.starts place) 0 (moved_count items)
     ∙ sym (length-map-range_with_len (offset_at items) 0 (moved_count items))

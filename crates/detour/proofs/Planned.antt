@@ -112,7 +112,6 @@ count_within firsts items =
     counted (first_end items) (length items)
     (λ k e. (firsts.some_below (λ j. not (item_goes_on (item_at items j))) (length items) k e).0)
 
-
 back_few : (bits : Bits) (ip : ℕ) (items : List Placed) → length (back_items bits ip items) ≤ 1
 back_few bits ip items =
     elim (cases_Bool (is_some (first_end items))) [

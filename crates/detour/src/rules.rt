@@ -163,7 +163,11 @@ fn sight_refusal(whole: bool, sight: Sight) -> Option<RuleError>
     match sight {
         Sight::Whole => None,
         Sight::Ends { at, why } => {
-            if whole { Some(RuleError::Unseen { at, why }) } else { None }
+            if whole {
+                Some(RuleError::Unseen { at, why })
+            } else {
+                None
+            }
         }
     }
 }
@@ -172,8 +176,9 @@ fn sight_refusal(whole: bool, sight: Sight) -> Option<RuleError>
 fn refusal_of(rules: HookRules, made: &Detour, view: &View) -> Option<RuleError>
     ensures { result ≡ spec.refusal_of rules made.now view.now }
 {
-    call_refusal(rules.calls, made.call()).or(inside_refusal(view.inside)
-        .or(entered_refusal(view.entered).or(sight_refusal(rules.whole, view.sight))))
+    call_refusal(rules.calls, made.call()).or(inside_refusal(view.inside).or(entered_refusal(
+        view.entered,
+    ).or(sight_refusal(rules.whole, view.sight))))
 }
 
 /// The detour with what was seen, unless there is a cause against it.

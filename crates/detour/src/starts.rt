@@ -116,7 +116,13 @@ fn start_numbered(starts: &[u32], number: Option<usize>) -> Option<u32>
 {
     match number {
         None => None,
-        Some(k) => { if k < starts.len() { Some(starts[k]) } else { None } }
+        Some(k) => {
+            if k < starts.len() {
+                Some(starts[k])
+            } else {
+                None
+            }
+        }
     }
 }
 
@@ -126,7 +132,13 @@ fn place_numbered(places: &[u64], number: Option<usize>) -> Option<u64>
 {
     match number {
         None => None,
-        Some(k) => { if k < places.len() { Some(places[k]) } else { None } }
+        Some(k) => {
+            if k < places.len() {
+                Some(places[k])
+            } else {
+                None
+            }
+        }
     }
 }
 

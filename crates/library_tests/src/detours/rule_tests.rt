@@ -3,8 +3,8 @@
 use crate::detours::compare::{are_bytes, same};
 use feddurzai::decoding::DecodeError;
 use feddurzai::hooks::{
-    Detour, DetourError, HookRules, Passage, RuleError, SeenDetour, Sight, SightEnd, StartTarget, View, detour,
-    detour_with,
+    Detour, DetourError, HookRules, Passage, RuleError, SeenDetour, Sight, SightEnd, StartTarget,
+    View, detour, detour_with,
 };
 use feddurzai::values::Bits;
 use std::alloc::Global;
@@ -207,14 +207,7 @@ const ALLOWED: &[(Case, Sight, Option<Passage>)] = &[
         Sight::Whole,
         None,
     ),
-    (
-        Case {
-            code: COLD,
-            ..PART
-        },
-        Sight::Whole,
-        None,
-    ),
+    (Case { code: COLD, ..PART }, Sight::Whole, None),
     // a jump back to the start is a suspect if loops stay in the trampoline
     (
         Case {
@@ -416,7 +409,10 @@ const REFUSED: &[(Case, RuleError)] = &[
         },
     ),
     // a loop to the start would come to the replacement
-    (Case { code: LOOP, ..PART }, RuleError::Entered { from: 8, target: 0 }),
+    (
+        Case { code: LOOP, ..PART },
+        RuleError::Entered { from: 8, target: 0 },
+    ),
     // entries within the overwritten bytes, the least one first
     (
         Case {
@@ -665,11 +661,7 @@ const TRAMPOLINES: &[(Case, &str, Option<u32>)] = &[
         None,
     ),
     // two NOPs; push 1007; mov dword [rsp+4], 0; jmp to the first NOP, or to the function
-    (
-        RECURSION,
-        "90906807100000c744240400000000ebef",
-        None,
-    ),
+    (RECURSION, "90906807100000c744240400000000ebef", None),
     (
         Case {
             start: StartTarget::Hooked,
@@ -712,14 +704,7 @@ fn same_items<T: PartialEq + Debug>(rt: &impl Abort, of: &str, found: &[T], want
 }
 
 /// That the second of two moved instructions begins at these offsets of the function and of the trampoline, and that none begins at the others.
-fn is_placed(
-    rt: &impl Abort,
-    made: &Detour,
-    start: u32,
-    place: u64,
-    no_start: u32,
-    no_place: u64,
-) {
+fn is_placed(rt: &impl Abort, made: &Detour, start: u32, place: u64, no_start: u32, no_place: u64) {
     same_items(rt, "the starts", made.starts(), &[0, start]);
     same_items(rt, "the places", made.places(), &[0, place]);
     same(rt, "the place", &made.place_of(start), &Some(place));
@@ -735,7 +720,13 @@ fn moved_instructions_have_places(rt: HostRuntime) -> Result<(), Fail> {
     let made = &seen.detour;
     are_bytes(&rt, rt.alloc(), "the patch", made.patch(), "e9fb3f0000")?;
     let trampoline = "0f840280ffff4889c8e9f77fffff";
-    are_bytes(&rt, rt.alloc(), "the trampoline", made.trampoline(), trampoline)?;
+    are_bytes(
+        &rt,
+        rt.alloc(),
+        "the trampoline",
+        made.trampoline(),
+        trampoline,
+    )?;
     is_placed(&rt, made, 2, 6, 5, 9);
     Ok(())
 }
