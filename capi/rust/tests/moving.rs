@@ -1,9 +1,9 @@
 //! Moved code, regions, steps and hooks. The bytes of branches are those of the Intel SDM.
 
 use feddurzai::{
-    move_blocks, move_code, move_code_outside, step, step_call, step_len, Block, BlockEncoder, BlockEncoderOptions, BlocksError,
-    Code, Decoder, DecoderOptions, Detour, DetourForm, DetourStart, Error, Instruction, InstructionBlock, MovedForm,
-    Region, StepSlots,
+    move_blocks, move_code, move_code_outside, step, step_call, step_len, Block, BlockEncoder, BlockEncoderOptions,
+    BlocksError, Code, Decoder, DecoderOptions, Detour, DetourForm, DetourStart, Error, Instruction, InstructionBlock,
+    MovedForm, Region, StepSlots,
 };
 
 fn decode(bitness: u32, ip: u64, code: &[u8]) -> Vec<Instruction> {
@@ -211,7 +211,15 @@ fn hooks_are_refused() {
 fn hooks_follow_rules() {
     use feddurzai::{look, DetourRules, MovedStart, Passage, Sight, SightEnd, StartRule};
     let by = |code: &[u8], place, start, entries: &[u32], whole| {
-        Detour::with_rules(64, 0x1000, code, 0x2000, place, start, DetourRules { entries, whole, ..DetourRules::default() })
+        Detour::with_rules(
+            64,
+            0x1000,
+            code,
+            0x2000,
+            place,
+            start,
+            DetourRules { entries, whole, ..DetourRules::default() },
+        )
     };
     // mov rax, [rdi]; mov rcx, rax; vsubps zmm0, zmm0, zmm1, which has no row; jmp to the second one; ret
     let unread = b"\x48\x8B\x07\x48\x89\xC1\x62\xF1\x7C\x48\x28\xC1\xEB\xF5\xC3";

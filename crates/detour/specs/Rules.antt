@@ -13,6 +13,7 @@ use Rattle.hook_sight.specs.declared.answers.StartRule.TheVariants.{Open, Closed
 use Rattle.hook_sight.specs.declared.answers.View.{View}
 use Rattle.hook_sight.specs.Entries.{part_of}
 use Rattle.hook_sight.specs.Views.{IsView}
+use Rattle.detour.specs.declared.error.DetourError.{DetourError}
 use Rattle.detour.specs.declared.error.DetourError.TheVariants as detour_error
 use Rattle.detour.specs.declared.rules.RuleError.{RuleError}
 use Rattle.detour.specs.declared.rules.RuleError.TheVariants.{Detour, Overlaps, Calls, Entered, Unseen}
