@@ -3,6 +3,7 @@ pub mod FewUses
 pub mod FewReached
 pub mod PutKinds
 pub mod PutStarts
+pub mod UsedPlaces
 pub mod ItemsInOrder
 pub mod MovedEntries
 pub mod ItemStructs

@@ -1,7 +1,6 @@
 //! What an instruction touches.
 
-ghost use Rattle.std.specs.Prelude.{◌≡◌, ◌<◌, ◌≤◌, ◌^◌, pos, length, map, IsTrue, MatchResult, Ok, Err};
-ghost use Rattle.std.specs.List.{range_with_len};
+ghost use Rattle.std.specs.Prelude.{◌≡◌, ◌≤◌, [], ◌∷◌, pos, length, IsTrue, MatchResult, Some, Ok, Err};
 ghost use Rattle.opcode_rows.specs.Allowed.{is_well_formed};
 ghost use Rattle.c_calls.specs.Answers as said;
 ghost use Rattle.c_calls.specs.Back.{instr_back};
@@ -13,17 +12,19 @@ use crate::flat::{FlatInstr, FlatMemoryUse, FlatTouched, FlatUse};
 use crate::flatten::{base_class, base_number};
 use crate::numbers::{bits_numbered, class_number, prefix_number, register_numbered};
 use crate::refusal::{Refusal, refusal_status};
-use crate::unflatten::instr_back;
+use crate::unflatten::instr_back_into;
+use arrayvec::ArrayVec;
 use bitflags::Flags;
+use decoder::UNREAD;
 use instruction_info::{
-    AccessKind, Features, MemoryUse, RegisterUse, all_memory, all_registers, flags_of,
-    needed_features,
+    AccessKind, Features, MemoryUse, RegisterUse, all_uses, flags_of, needed_features,
 };
-use opcode_rows::{ROWS, well_formed};
+use opcode_rows::well_formed;
 use operand_info::laws::well_formed_codes_are_in_the_table;
 use x86_values::{Bits, Instr, Register};
 
 /// What is done, in bits: 1 read, 2 written, 4 and 8 the same under a condition.
+#[inline]
 fn kind_number(access: AccessKind) -> u8
     ensures { result ≡ spec.access_kind_number access }
 {
@@ -45,37 +46,29 @@ const NO_USE: FlatUse = FlatUse {
     access: 0,
 };
 
-/// Register `n`, zeros if there are no more.
-#[tactic(auto, unfolding(crate::specs::Effects::register_at))]
-fn register_at(uses: &[RegisterUse], n: usize) -> FlatUse
-    ensures { result ≡ spec.register_at uses.now n }
+/// A register with what is done to it.
+#[inline]
+fn flat_register(used: &RegisterUse) -> FlatUse
+    ensures { result ≡ spec.flat_register (Some used.now) }
 {
-    match uses.get(n) {
-        Some(used) => FlatUse {
-            reg_class: class_number(used.reg),
-            reg_number: used.reg.number(),
-            access: kind_number(used.access),
-        },
-        None => NO_USE,
+    FlatUse {
+        reg_class: class_number(used.reg),
+        reg_number: used.reg.number(),
+        access: kind_number(used.access),
     }
 }
 
-/// Fills places, each with the register of its number.
-fn fill_places(places: &mut [FlatUse], uses: &[RegisterUse])
-    ensures { places.new ≡ map (spec.register_at uses.now) (range_with_len 0 (length places.old)) }
+/// Writes registers to 32 places, and zeros behind them.
+// Zeros are written at once, and then only the places of registers.
+#[inline]
+fn put_registers(places: &mut [FlatUse; 32], uses: &[RegisterUse])
+    requires { length uses.now ≤ 32 }
+    ensures { places.new ≡ spec.register_places uses.now }
 {
-    'places: for n in 0..places.len() {
-        places[n] = register_at(uses, n);
+    *places = [NO_USE; 32];
+    'places: for n in 0..uses.len() {
+        places[n] = flat_register(&uses[n]);
     }
-}
-
-/// The 32 places of the registers.
-fn register_places(uses: &[RegisterUse]) -> [FlatUse; 32]
-    ensures { result ≡ spec.register_places uses.now }
-{
-    let mut places = [NO_USE; 32];
-    fill_places(&mut places, uses);
-    places
 }
 
 /// No memory.
@@ -91,87 +84,79 @@ pub(crate) const NO_MEMORY: FlatMemoryUse = FlatMemoryUse {
     access: 0,
 };
 
-/// Memory `n`, zeros if there is no more.
-#[tactic(auto, unfolding(crate::specs::Effects::memory_at))]
-fn memory_at(uses: &[MemoryUse], n: usize) -> FlatMemoryUse
-    ensures { result ≡ spec.memory_at uses.now n }
+/// Memory with what is done there.
+#[inline]
+fn flat_memory_use(used: &MemoryUse) -> FlatMemoryUse
+    ensures { result ≡ spec.flat_memory_use (Some used.now) }
 {
-    match uses.get(n) {
-        Some(used) => FlatMemoryUse {
-            displacement: used.disp,
-            size: used.size,
-            segment: prefix_number(Some(used.segment)),
-            base_class: base_class(used.base),
-            base_number: base_number(used.base),
-            index_class: base_class(used.index),
-            index_number: base_number(used.index),
-            scale: used.scale,
-            access: kind_number(used.access),
-        },
-        None => NO_MEMORY,
+    FlatMemoryUse {
+        displacement: used.disp,
+        size: used.size,
+        segment: prefix_number(Some(used.segment)),
+        base_class: base_class(used.base),
+        base_number: base_number(used.base),
+        index_class: base_class(used.index),
+        index_number: base_number(used.index),
+        scale: used.scale,
+        access: kind_number(used.access),
     }
 }
 
-/// What a well-formed instruction touches in a mode.
+/// Writes memory to four places, and zeros behind it.
+#[inline]
+fn put_memory(places: &mut [FlatMemoryUse; 4], uses: &[MemoryUse])
+    requires { length uses.now ≤ 4 }
+    ensures { places.new ≡ spec.memory_at uses.now 0 ∷ spec.memory_at uses.now 1 ∷ spec.memory_at uses.now 2 ∷ spec.memory_at uses.now 3 ∷ [] }
+{
+    *places = [NO_MEMORY; 4];
+    'places: for n in 0..uses.len() {
+        places[n] = flat_memory_use(&uses[n]);
+    }
+}
+
+/// Writes what a well-formed instruction touches in a mode to a struct.
+// Each part is written to its place in the struct: a struct that a function returns is copied.
+#[inline]
 #[tactic(auto, unfolding(crate::specs::Effects::effects_of))]
-fn effects_of(bits: Bits, instr: &Instr) -> FlatTouched
+fn touched_into(bits: Bits, instr: &Instr, touched: &mut FlatTouched)
     requires { IsTrue (is_well_formed instr.now) }
-    ensures { result ≡ spec.effects_of bits instr.now }
+    ensures { touched.new ≡ spec.effects_of bits instr.now }
 {
     well_formed_codes_are_in_the_table();
-    let registers = all_registers(bits, instr);
-    let memory = all_memory(bits, instr);
-    let uses = memory.as_slice();
+    let mut memory = ArrayVec::new();
+    let mut registers = ArrayVec::new();
+    all_uses(bits, instr, &mut memory, &mut registers);
+    put_memory(&mut touched.memory, memory.as_slice());
+    put_registers(&mut touched.registers, registers.as_slice());
+    touched.memory_count = memory.len() as u8;
+    touched.register_count = registers.len() as u8;
     let flags = flags_of(instr.code);
-    FlatTouched {
-        features: needed_features(instr).0,
-        flags_read: flags.read.0,
-        flags_written: flags.written.0,
-        flags_cleared: flags.cleared.0,
-        flags_set: flags.set.0,
-        flags_undefined: flags.undefined.0,
-        flags_kept: flags.kept.0,
-        memory: [
-            memory_at(uses, 0),
-            memory_at(uses, 1),
-            memory_at(uses, 2),
-            memory_at(uses, 3),
-        ],
-        registers: register_places(registers.as_slice()),
-        memory_count: memory.len() as u8,
-        register_count: registers.len() as u8,
-    }
-}
-
-/// What the instruction of a struct touches in the mode of a number.
-#[tactic(auto, unfolding(crate::specs::Effects::touched_of))]
-fn touched_of(bits: u32, instr: &FlatInstr) -> Result<FlatTouched, Refusal>
-    ensures { result ≡ spec.touched_of (bits_numbered bits) (instr_back instr.now) }
-{
-    let Some(bits) = bits_numbered(bits) else {
-        return Err(Refusal::Mode);
-    };
-    let Some(instr) = instr_back(instr) else {
-        return Err(Refusal::Instr);
-    };
-    if well_formed(&instr) {
-        Ok(effects_of(bits, &instr))
-    } else {
-        Err(Refusal::Form)
-    }
+    touched.features = needed_features(instr).0;
+    touched.flags_read = flags.read.0;
+    touched.flags_written = flags.written.0;
+    touched.flags_cleared = flags.cleared.0;
+    touched.flags_set = flags.set.0;
+    touched.flags_undefined = flags.undefined.0;
+    touched.flags_kept = flags.kept.0;
 }
 
 /// Returns what an instruction touches: registers, memory and flags, and the features that it needs.
+#[tactic(auto, unfolding(crate::specs::Effects::touched_of))]
 pub fn effects(bits: u32, instr: &FlatInstr, effects: &mut FlatTouched) -> i32
     ensures said { result ≡ spec.touched_said (spec.touched_of (bits_numbered bits) (instr_back instr.now)) }
     ensures left { effects.new ≡ spec.touched_left effects.old (spec.touched_of (bits_numbered bits) (instr_back instr.now)) }
 {
-    match touched_of(bits, instr) {
-        Ok(told) => {
-            *effects = told;
+    let Some(bits) = bits_numbered(bits) else {
+        return refusal_status(Refusal::Mode);
+    };
+    let mut read = UNREAD.instr;
+    match instr_back_into(instr, &mut read) {
+        None => refusal_status(Refusal::Instr),
+        Some(()) if well_formed(&read) => {
+            touched_into(bits, &read, effects);
             0
         }
-        Err(why) => refusal_status(why),
+        Some(()) => refusal_status(Refusal::Form),
     }
 }
 

@@ -95,6 +95,7 @@ impl Flags for Features {
 ///
 /// Two forms of a row can use different features. VBROADCASTSS and VBROADCASTSD use AVX from memory, which this function returns, and AVX2 from a
 /// register, which [`used_features`] returns. A hint uses a feature but does not need it: see [`needed_features`].
+#[inline]
 pub fn features_of(code: Code) -> Features
     requires { code.0 < ROWS }
     ensures { result.0 ≡ spec.features_of code.0 }
@@ -146,6 +147,20 @@ fn is_hint(row: &Row) -> bool
     }
 }
 
+/// The features that an instruction needs, whose row uses some.
+#[inline]
+#[tactic(auto, unfolding(crate::specs::Effects::needed_features))]
+fn features_unless_hint(instr: &Instr) -> Features
+    requires { instr.now.code.0 < ROWS }
+    ensures { result.0 ≡ spec.needed_features instr.now }
+{
+    if is_hint(&row_of(instr.code)) {
+        Features(0)
+    } else {
+        used_features(instr)
+    }
+}
+
 /// Returns the features that an instruction needs. Its code must be below `ROWS`.
 ///
 /// These are [`used_features`], or none for a hint. Prefetches, RDSSPD, RDSSPQ, ENDBR32 and ENDBR64 use a feature, but a processor without it
@@ -154,14 +169,17 @@ fn is_hint(row: &Row) -> bool
 /// ```
 /// println!(rt; "{}", needed_features(&add.instr).contains(Features::AVX))?; // false
 /// ```
-#[tactic(auto, unfolding(crate::specs::Effects::needed_features))]
+#[inline]
+#[tactic(auto, using(crate::proofs::NoFeatures::needs_none))]
 pub fn needed_features(instr: &Instr) -> Features
     requires { instr.now.code.0 < ROWS }
     ensures { result.0 ≡ spec.needed_features instr.now }
 {
-    if is_hint(&row_of(instr.code)) {
+    let used = features_of(instr.code).0;
+    let used_by_registers = register_features_of(instr.code).0;
+    if used == 0 && used_by_registers == 0 {
         Features(0)
     } else {
-        used_features(instr)
+        features_unless_hint(instr)
     }
 }

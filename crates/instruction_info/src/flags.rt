@@ -90,6 +90,7 @@ pub struct FlagUse {
 /// let flags = flags_of(add.instr.code);
 /// println!(rt; "{}", flags.written.contains(FlagSet::ZF))?; // true
 /// ```
+#[inline]
 pub fn flags_of(code: Code) -> FlagUse
     requires { code.0 < ROWS }
     ensures read { result.read.0 ≡ spec.flags_read code.0 }

@@ -21,4 +21,4 @@ pub use effect::{
 pub use features::{Features, features_of, needed_features, used_features};
 pub use flags::{FlagSet, FlagUse, flags_of};
 pub use memory::{MemoryUse, all_memory};
-pub use registers::{RegisterUse, all_registers, full_register};
+pub use registers::{RegisterUse, all_registers, all_uses, full_register};

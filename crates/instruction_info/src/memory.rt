@@ -1,9 +1,11 @@
 //! The memory that an instruction touches.
 
-ghost use Rattle.std.specs.Prelude.{◌≡◌, ◌<◌, ◌≤◌, ◌+◌, ◌*◌, ◌++◌, IsTrue, length};
+ghost use Rattle.std.specs.Prelude.{◌≡◌, ◌<◌, ◌≤◌, ◌+◌, ◌*◌, [], ◌++◌, IsTrue, false, is_some, length};
 ghost use Rattle.instruction_parts.specs.Sizes.{size_bytes};
 ghost use Rattle.arrayvec.specs.ArrayVec.{array_vec_len};
 ghost use Rattle.opcode_rows.specs.Allowed.{is_well_formed};
+ghost use Rattle.instruction_info.specs.Effects.{effect_of};
+ghost use Rattle.instruction_info.specs.Settings.{setting_of};
 ghost use Rattle.instruction_info.specs.Memory as spec;
 
 use crate::effect::{
@@ -51,8 +53,9 @@ type Uses = ArrayVec<MemoryUse, 4>;
 
 /// Returns the segment of an address with a given default segment: the segment that a prefix names (in 64-bit mode only FS and GS), or else the
 /// default.
-fn segment_with(setting: Setting, default: Segment) -> Segment
-    ensures { result ≡ spec.segment_with setting default }
+#[inline]
+fn segment_with(setting: &Setting, default: Segment) -> Segment
+    ensures { result ≡ spec.segment_with setting.now default }
 {
     match (setting.seg, setting.bits) {
         (None, _) => default,
@@ -102,9 +105,10 @@ fn named_size(code: Code) -> u16
 }
 
 /// The use of an operand's memory.
-fn operand_memory(setting: Setting, code: Code, m: Mem, access: AccessKind) -> MemoryUse
+#[inline]
+fn operand_memory(setting: &Setting, code: Code, m: &Mem, access: AccessKind) -> MemoryUse
     requires { code.0 < ROWS }
-    ensures { result ≡ spec.operand_memory setting code.0 m access }
+    ensures { result ≡ spec.operand_memory setting.now code.0 m.now access }
 {
     MemoryUse {
         segment: segment_with(setting, default_segment(m.base)),
@@ -117,52 +121,73 @@ fn operand_memory(setting: Setting, code: Code, m: Mem, access: AccessKind) -> M
     }
 }
 
-/// The use of an operand's memory with what is done to it, if anything is.
-fn used_if(setting: Setting, code: Code, m: Mem, access: Option<AccessKind>) -> Option<MemoryUse>
-    requires { code.0 < ROWS }
-    ensures { result ≡ spec.used_if setting code.0 m access }
+/// Appends the use of an operand's memory, if something is done to it, and returns whether something is.
+// A function of its own, so that an operand that is no memory costs a test alone.
+#[inline(never)]
+fn push_memory(uses: &mut Uses, setting: &Setting, code: Code, m: &Mem, access: Access) -> bool
+    requires code { code.0 < ROWS }
+    requires room { array_vec_len uses.old < 4 }
+    ensures items { uses.new.items ≡ uses.old.items ++ spec.use_list (spec.used_if setting.now code.0 m.now (spec.named_access (effect_of code.0).named access)) }
+    ensures used { result ≡ is_some (spec.used_if setting.now code.0 m.now (spec.named_access (effect_of code.0).named access)) }
+    ensures room { array_vec_len uses.new ≤ array_vec_len uses.old + 1 }
+    ensures kept { result ≡ false → uses.new ≡ uses.old }
 {
-    match access {
-        None => None,
-        Some(access) => Some(operand_memory(setting, code, m, access)),
+    match named_access(stated_access(code), access) {
+        None => false,
+        Some(access) => {
+            uses.push(operand_memory(setting, code, m, access));
+            true
+        }
     }
 }
 
-/// The use of an operand with its access, if it is memory to which something is done.
-fn operand_use(setting: Setting, code: Code, operand: Operand, access: Access) -> Option<MemoryUse>
-    requires { code.0 < ROWS }
-    ensures { result ≡ spec.operand_memory_use setting code.0 operand access }
+/// Appends the use of an operand with its access, if it is memory to which something is done, and returns whether it is.
+#[inline]
+fn push_operand(
+    uses: &mut Uses,
+    setting: &Setting,
+    code: Code,
+    operand: &Operand,
+    access: Access,
+) -> bool
+    requires code { code.0 < ROWS }
+    requires room { array_vec_len uses.old < 4 }
+    ensures items { uses.new.items ≡ uses.old.items ++ spec.use_list (spec.operand_memory_use setting.now code.0 operand.now access) }
+    ensures used { result ≡ is_some (spec.operand_memory_use setting.now code.0 operand.now access) }
+    ensures room { array_vec_len uses.new ≤ array_vec_len uses.old + 1 }
+    ensures kept { result ≡ false → uses.new ≡ uses.old }
 {
     match operand {
-        Operand::Mem(m) => { used_if(setting, code, m, named_access(stated_access(code), access)) }
-        _ => None,
+        Operand::Mem(m) => push_memory(uses, setting, code, m, access),
+        _ => false,
     }
 }
 
-/// The use of operand `n`, if it is memory to which something is done.
+/// Appends the use of operand `n`, if it is memory to which something is done, and returns whether it is.
+#[inline]
 #[tactic(auto, unfolding(crate::specs::Memory::named_at))]
-fn named_at(setting: Setting, instr: &Instr, n: usize) -> Option<MemoryUse>
+fn push_operand_at(uses: &mut Uses, setting: &Setting, instr: &Instr, n: usize) -> bool
     requires code { instr.now.code.0 < ROWS }
     requires number { n < 4 }
-    ensures { result ≡ spec.named_at setting instr.now n }
+    requires room { array_vec_len uses.old < 4 }
+    ensures items { uses.new.items ≡ uses.old.items ++ spec.use_list (spec.named_at setting.now instr.now n) }
+    ensures used { result ≡ is_some (spec.named_at setting.now instr.now n) }
+    ensures room { array_vec_len uses.new ≤ array_vec_len uses.old + 1 }
+    ensures kept { result ≡ false → uses.new ≡ uses.old }
 {
-    operand_use(setting, instr.code, instr.ops[n], access_of(instr.code, n))
-}
-
-/// The use of the memory operand.
-fn named_memory(setting: Setting, instr: &Instr) -> Option<MemoryUse>
-    requires { instr.now.code.0 < ROWS }
-    ensures { result ≡ spec.named_memory setting instr.now }
-{
-    named_at(setting, instr, 0).or(named_at(setting, instr, 1).or(named_at(setting, instr, 2).or(
-        named_at(setting, instr, 3),
-    )))
+    push_operand(
+        uses,
+        setting,
+        instr.code,
+        &instr.ops[n],
+        access_of(instr.code, n),
+    )
 }
 
 /// How many units implied memory has in a mode.
 #[inline]
-fn count_in(bits: Bits, m: ImpliedMemory) -> u8
-    ensures { result ≡ spec.count_in bits m }
+fn count_in(bits: Bits, m: &ImpliedMemory) -> u8
+    ensures { result ≡ spec.count_in bits m.now }
 {
     match bits {
         Bits::B64 => m.count64,
@@ -184,8 +209,8 @@ fn bytes_of(size: Bits) -> u8
 
 /// The bytes of a unit of implied memory.
 #[inline]
-fn unit_bytes(setting: Setting, m: ImpliedMemory) -> u8
-    ensures { result ≡ spec.unit_bytes setting m }
+fn unit_bytes(setting: &Setting, m: &ImpliedMemory) -> u8
+    ensures { result ≡ spec.unit_bytes setting.now m.now }
 {
     if m.unit == 0 {
         bytes_of(setting.operand)
@@ -203,15 +228,17 @@ fn product(count: u8, unit: u8) -> u16
 }
 
 /// How many bytes implied memory has.
-fn implied_size(setting: Setting, m: ImpliedMemory) -> u16
-    ensures { result ≡ spec.implied_size setting m }
+#[inline]
+fn implied_size(setting: &Setting, m: &ImpliedMemory) -> u16
+    ensures { result ≡ spec.implied_size setting.now m.now }
 {
     product(count_in(setting.bits, m), unit_bytes(setting, m))
 }
 
 /// The segment of implied memory.
-fn implied_segment(setting: Setting, rule: SegmentRule) -> Segment
-    ensures { result ≡ spec.implied_segment setting rule }
+#[inline]
+fn implied_segment(setting: &Setting, rule: SegmentRule) -> Segment
+    ensures { result ≡ spec.implied_segment setting.now rule }
 {
     match rule {
         SegmentRule::Data => segment_with(setting, Segment::Ds),
@@ -221,9 +248,10 @@ fn implied_segment(setting: Setting, rule: SegmentRule) -> Segment
 }
 
 /// The use of implied memory.
+#[inline]
 #[tactic(auto, unfolding(crate::specs::Memory::implied_use))]
-fn implied_use(setting: Setting, m: ImpliedMemory) -> MemoryUse
-    ensures { result ≡ spec.implied_use setting m }
+fn implied_use(setting: &Setting, m: &ImpliedMemory) -> MemoryUse
+    ensures { result ≡ spec.implied_use setting.now m.now }
 {
     let size = implied_size(setting, m);
     let disp = if m.below {
@@ -243,31 +271,51 @@ fn implied_use(setting: Setting, m: ImpliedMemory) -> MemoryUse
 }
 
 /// Appends the use of the memory operand.
-fn push_named(uses: &mut Uses, setting: Setting, instr: &Instr)
+#[inline]
+fn push_named(uses: &mut Uses, setting: &Setting, instr: &Instr)
     requires code { instr.now.code.0 < ROWS }
     requires room { array_vec_len uses.old < 4 }
-    ensures items { uses.new.items ≡ uses.old.items ++ spec.named_uses setting instr.now }
+    ensures items { uses.new.items ≡ uses.old.items ++ spec.named_uses setting.now instr.now }
     ensures room { array_vec_len uses.new ≤ array_vec_len uses.old + 1 }
 {
-    match named_memory(setting, instr) {
-        None => {}
-        Some(memory) => uses.push(memory),
+    if push_operand_at(uses, setting, instr, 0) {
+        return;
     }
+    if push_operand_at(uses, setting, instr, 1) {
+        return;
+    }
+    if push_operand_at(uses, setting, instr, 2) {
+        return;
+    }
+    push_operand_at(uses, setting, instr, 3);
 }
 
 /// Appends the uses of implied memory.
 #[tactic(auto, unfolding(crate::specs::Memory::implied_uses))]
-fn push_implied(uses: &mut Uses, setting: Setting, memory: &[ImpliedMemory])
+fn push_implied(uses: &mut Uses, setting: &Setting, memory: &[ImpliedMemory])
     requires { array_vec_len uses.old + length memory.now ≤ 4 }
-    ensures { uses.new.items ≡ uses.old.items ++ spec.implied_uses setting memory.now }
+    ensures { uses.new.items ≡ uses.old.items ++ spec.implied_uses setting.now memory.now }
 {
     match memory {
         [] => {}
         [m, rest @ ..] => {
-            uses.push(implied_use(setting, *m));
+            uses.push(implied_use(setting, m));
             push_implied(uses, setting, rest)
         }
     }
+}
+
+/// Appends the memory that an instruction of a setting touches to none.
+#[inline]
+#[tactic(auto, unfolding(crate::specs::Memory::all_memory))]
+pub(crate) fn push_all_memory(uses: &mut Uses, bits: Bits, setting: &Setting, instr: &Instr)
+    requires code { instr.now.code.0 < ROWS }
+    requires setting { setting.now ≡ setting_of bits instr.now }
+    requires empty { uses.old.items ≡ [] }
+    ensures { uses.new.items ≡ spec.all_memory bits instr.now }
+{
+    push_named(uses, setting, instr);
+    push_implied(uses, setting, implied_memory(instr.code));
 }
 
 /// Returns the memory that a well-formed instruction touches in a mode: first its memory operand, if it is accessed, then implied memory: slots of
@@ -279,7 +327,6 @@ fn push_implied(uses: &mut Uses, setting: Setting, memory: &[ImpliedMemory])
 ///     println!(rt; "{:?} {} bytes {:?}", used.segment, used.size, used.access)?; // Ss 8 bytes Write
 /// }
 /// ```
-#[tactic(auto, unfolding(crate::specs::Memory::all_memory))]
 pub fn all_memory(bits: Bits, instr: &Instr) -> ArrayVec<MemoryUse, 4>
     requires { IsTrue (is_well_formed instr.now) }
     ensures { result.items ≡ spec.all_memory bits instr.now }
@@ -287,7 +334,6 @@ pub fn all_memory(bits: Bits, instr: &Instr) -> ArrayVec<MemoryUse, 4>
     well_formed_codes_are_in_the_table();
     let setting = setting_of(bits, instr);
     let mut uses = ArrayVec::new();
-    push_named(&mut uses, setting, instr);
-    push_implied(&mut uses, setting, implied_memory(instr.code));
+    push_all_memory(&mut uses, bits, &setting, instr);
     uses
 }

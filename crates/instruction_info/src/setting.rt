@@ -1,11 +1,11 @@
 //! What determines the implied registers and addresses of an instruction.
 
-ghost use Rattle.std.specs.Prelude.{◌≡◌, ◌<◌, slice_get};
+ghost use Rattle.std.specs.Prelude.{◌≡◌, ◌<◌, slice_get, Some};
 ghost use Rattle.opcode_rows.specs.Table.{table};
 ghost use Rattle.instruction_info.specs.Settings as spec;
 
 use crate::effect::{AccessKind, RegisterGroup, repeats};
-use instruction_parts::row_types::Size;
+use instruction_parts::row_types::{Row, Size};
 use opcode_rows::{ROWS, row_of};
 use x86_values::{Bits, Code, Instr, Register, Rep, Segment};
 
@@ -43,28 +43,30 @@ fn has_repeat(rep: Rep) -> bool
     }
 }
 
-/// The operand size of the row of a code.
+/// Returns the setting of an instruction in a mode, whose row is given. An instruction without an address size has that of the mode.
 #[inline]
-fn operand_of(code: Code) -> Bits
-    requires { code.0 < ROWS }
-    ensures { result ≡ spec.size_in (slice_get table code.0) }
-{
-    operand_size(row_of(code).size)
-}
-
-/// Returns the setting of an instruction in a mode. An instruction without an address size has that of the mode.
 #[tactic(auto, unfolding(crate::specs::Settings::setting_of))]
-pub fn setting_of(bits: Bits, instr: &Instr) -> Setting
-    requires { instr.now.code.0 < ROWS }
+pub fn setting_by(bits: Bits, instr: &Instr, row: &Row) -> Setting
+    requires code { instr.now.code.0 < ROWS }
+    requires row { slice_get table instr.now.code.0 ≡ Some row.now }
     ensures { result ≡ spec.setting_of bits instr.now }
 {
     Setting {
         bits,
-        operand: operand_of(instr.code),
+        operand: operand_size(row.size),
         address: instr.asize.unwrap_or(bits),
         seg: instr.seg,
         repeated: has_repeat(instr.rep) && repeats(instr.code),
     }
+}
+
+/// Returns the setting of an instruction in a mode.
+#[inline]
+pub fn setting_of(bits: Bits, instr: &Instr) -> Setting
+    requires { instr.now.code.0 < ROWS }
+    ensures { result ≡ spec.setting_of bits instr.now }
+{
+    setting_by(bits, instr, &row_of(instr.code))
 }
 
 /// Returns the general register with a size and a number.
@@ -107,8 +109,8 @@ fn segment_of(n: u8) -> Segment
 
 /// Returns the register of a group by its number.
 #[tactic(auto, unfolding(crate::specs::Settings::register_in))]
-pub fn register_in(setting: Setting, group: RegisterGroup, n: u8) -> Register
-    ensures { result ≡ spec.register_in setting group n }
+pub fn register_in(setting: &Setting, group: RegisterGroup, n: u8) -> Register
+    ensures { result ≡ spec.register_in setting.now group n }
 {
     match group {
         RegisterGroup::Low8 => Register::Low8(n),
@@ -145,8 +147,8 @@ pub fn conditional(access: AccessKind) -> AccessKind
 
 /// Returns the access under a repeat prefix, whose counter may be 0.
 #[inline]
-pub fn done(setting: Setting, access: AccessKind) -> AccessKind
-    ensures { result ≡ spec.done setting access }
+pub fn done(setting: &Setting, access: AccessKind) -> AccessKind
+    ensures { result ≡ spec.done setting.now access }
 {
     if setting.repeated {
         conditional(access)
