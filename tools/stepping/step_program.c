@@ -491,7 +491,7 @@ static void run(void)
         if (stop->place == 0) {
             refused_runs++;
             signal = run_in_place(stop);
-            signal = signal == SIGTRAP ? 0 : signal;
+            signal = signal == SIGTRAP ? 0 : go_on(PTRACE_CONT, signal);
             continue;
         }
         if (stop->is_syscall)

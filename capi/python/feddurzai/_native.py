@@ -55,7 +55,7 @@ TextRoom = room_of(MAX_TEXT)
 
 
 class Rooms:
-    """Buffers of one size that are used again. A call takes one out and gives it back, so that no two threads have the same one."""
+    """Buffers of one size that are used again. Who needs one takes it out and gives it back, so that no two threads have the same one."""
 
     def __init__(self, size: int) -> None:
         self._type = room_of(size)
@@ -63,7 +63,7 @@ class Rooms:
         self._pop, self.give = free.pop, free.append
 
     def take(self) -> Tuple[Any, Any]:
-        """A buffer, and a reference to it for a call of `bare`. What is in the buffer is left from an earlier call."""
+        """A buffer, and a reference to it for a function of `_bare`. The buffer may hold what an earlier call left."""
         try:
             return self._pop()
         except IndexError:
@@ -85,8 +85,8 @@ def _call(library: ctypes.CDLL, name: str, *types: type, result: type = ctypes.c
 
 
 def _bare(library: ctypes.CDLL, name: str) -> Callable[..., int]:
-    """A function whose arguments are not converted, which takes longer than a short call. It takes an int as a number of 32 bits, bytes, a
-    reference of `Rooms`, and a c_size_t."""
+    """A function without types of its arguments, because to check and convert these takes longer than a short call. Each argument must be an int of
+    32 bits, bytes, a reference of `Rooms`, or a c_size_t."""
     call = library["feddurzai_" + name]
     call.restype = ctypes.c_int32
     taken: Callable[..., int] = call
