@@ -3,7 +3,7 @@
 import struct
 from ctypes import byref, c_char_p, c_size_t, c_uint8, c_uint32, c_void_p, cast, string_at
 from itertools import accumulate, chain, repeat
-from typing import Callable, Dict, Iterable, Iterator, List, NamedTuple, Optional, Sequence, Tuple, Union
+from typing import Callable, Dict, Iterable, Iterator, List, NamedTuple, Optional, Sequence, Tuple, Type, Union
 
 from . import _checks, _native
 from ._checks import Buffer
@@ -40,7 +40,7 @@ def version() -> Tuple[int, int, int]:
     return (number >> 16, number >> 8 & 255, number & 255)
 
 
-_new = Instr.__new__
+_new: Callable[[Type[Instr]], Instr] = Instr.__new__
 
 
 def _read(bits: int, address: int, code: bytes, struct_: bytes) -> Instr:

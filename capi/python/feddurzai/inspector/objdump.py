@@ -36,8 +36,8 @@ def _texts_of(bits: int, style: int, codes: Iterable[bytes]) -> Dict[bytes, str]
             return {}
     found = {}
     for at, hex_, text in _LINE.findall(done.stdout.decode("ascii", "replace")):
-        code = places.get(int(at, 16))
-        if code is not None and bytes.fromhex(hex_) == code and "(bad)" not in text:
+        code = bytes.fromhex(hex_)
+        if places.get(int(at, 16)) == code and "(bad)" not in text:
             # an address after # belongs to the file that objdump reads
             found[code] = " ".join(text.partition("#")[0].split())
     return found
