@@ -4,10 +4,12 @@
 """
 
 import ctypes
+import dataclasses
 import doctest
 import inspect
 import pickle
 import pydoc
+import random
 import sys
 import threading
 
@@ -149,6 +151,37 @@ def told_what_it_touches():
     refused(f.Reason.BAD_INSTR, f.effects, 64, made.replace(rep=5))
 
 
+def effects_differ_in_displacements():
+    """Effects of instructions that differ in a displacement alone, which are copies of each other: they are the values that a constructor makes."""
+    far, one = f.Touch.READ, f.Segment.DS
+
+    def memory(bits, ip, text, value, *rest):
+        told = f.decode(bits, ip, code(text)).effects()
+        check((told.memory[1:], told.registers[:1], told.flags_read), (rest, first.setdefault((bits, text[:4]), told).registers[:1], f.Flags(0)))
+        want = dataclasses.replace(told, memory=(dataclasses.replace(told.memory[0], displacement=value), *rest))
+        for made, kin in ((told, want), (told.memory[0], want.memory[0])):
+            check((made, hash(made), repr(made), vars(made)), (kin, hash(kin), repr(kin), vars(kin)))
+            check(pickle.loads(pickle.dumps(made)), made)
+            raised(dataclasses.FrozenInstanceError, setattr, made, "displacement", 1)
+        return told.memory[0]
+
+    first = {}
+    rbx, ebx, bx, rip = (f.register(name) for name in ("rbx", "ebx", "bx", "rip"))
+    for value in (0x10, -0x10, 0, 0x7FFFFFFF, -0x80000000, 0x10, 5):
+        disp = (value & 0xFFFFFFFF).to_bytes(4, "little").hex()
+        check(memory(64, 0, "8b83" + disp, value), f.MemoryUse(one, rbx, None, 1, value, 4, far))
+        check(memory(32, 0, "8b83" + disp, value), f.MemoryUse(one, ebx, None, 1, value, 4, far))
+        check(memory(64, 0, "678b83" + disp, value), f.MemoryUse(one, ebx, None, 1, value, 4, far))
+        # without a base an address is unsigned, and so is that at RIP
+        check(memory(64, 0, "8b0425" + disp, value & (1 << 64) - 1), f.MemoryUse(one, None, None, 1, value & (1 << 64) - 1, 4, far))
+        check(memory(32, 0, "8b05" + disp, value & 0xFFFFFFFF), f.MemoryUse(one, None, None, 1, value & 0xFFFFFFFF, 4, far))
+        check(memory(64, 0x1000, "8b05" + disp, 0x1006 + value & (1 << 64) - 1).base, rip)
+        stack = f.MemoryUse(f.Segment.SS, f.register("rsp"), None, 1, -8, 8, f.Touch.WRITE)
+        check(memory(64, 0, "ffb3" + disp, value, stack), f.MemoryUse(one, rbx, None, 1, value, 8, far))
+    for value in (0x10, -0x10, 0x7FFF, -0x8000):
+        check(memory(16, 0, "8b87" + (value & 0xFFFF).to_bytes(2, "little").hex(), value), f.MemoryUse(one, bx, None, 1, value, 2, far))
+
+
 def made_instructions():
     rax, rbx, rcx = (f.register(name) for name in ("rax", "rbx", "rcx"))
     lea = f.code_of("lea", "REX.W + 8D /r")
@@ -195,6 +228,33 @@ def items_say_what_they_are():
     items = f.iterate(64, 0, source)
     source[1] = 0x90
     check([str(item) for item in items], ["nop", "ret"])
+
+
+def items_are_those_of_decode():
+    """Random bytes, read by `iterate` in chunks and one by one by `decode`."""
+    rng = random.Random(908)
+    for bits, ip in ((16, 0xF000), (32, 0xFFFFFF00), (64, 0x401000), (64, (1 << 64) - 700)):
+        source = b"".join(rng.choice((b"\x90", b"\x48\x8b\x05", b"\xc3", bytes([rng.randrange(256)]))) for _ in range(9000))
+        for unlisted in (False, True):
+            at, items = 0, f.iterate(bits, ip, source, unlisted=unlisted)
+            for item in items:
+                address = ip + at & (1 << bits) - 1
+                try:
+                    want = f.decode(bits, ip, source, at)
+                    assert item._struct == want._struct and item.bits == bits, (at, item)
+                except f.TooShort:
+                    want = f.Rest(address, source[at:])
+                except f.InvalidCode:
+                    want = f.BadByte(address, source[at : at + 1])
+                    try:
+                        shape = f.measure(bits, source, at) if unlisted else None
+                    except f.Refusal:
+                        shape = None
+                    if shape is not None:
+                        want = f.Unlisted(address, source[at : at + shape.len], shape, shape.target(bits, address))
+                assert (item, item.address, item.bytes, item.kind) == (want, address, want.bytes, want.kind), (at, item, want)
+                at += item.len
+            check(at, len(source))
 
 
 def texts_are_read():
@@ -631,8 +691,10 @@ for test in (
     read_instructions,
     told_what_it_does,
     told_what_it_touches,
+    effects_differ_in_displacements,
     made_instructions,
     items_say_what_they_are,
+    items_are_those_of_decode,
     texts_are_read,
     jumps_have_forms,
     moved_as_blocks,

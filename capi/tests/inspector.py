@@ -8,6 +8,7 @@ import json
 import os
 import random
 import re
+import shutil
 import subprocess
 import sys
 import tempfile
@@ -15,7 +16,8 @@ import tempfile
 PACKAGE, LIBRARY = sys.argv[1:3]
 os.environ["FEDDURZAI_LIBRARY"] = LIBRARY
 sys.path.insert(0, PACKAGE)
-from feddurzai.inspector import needs  # noqa: E402
+import feddurzai  # noqa: E402
+from feddurzai.inspector import needs, scan  # noqa: E402
 from feddurzai.inspector.elf import open_program  # noqa: E402
 
 CC = os.environ.get("CC", "gcc")
@@ -88,6 +90,34 @@ table:
     .endr
     .section .note.GNU-stack,"",@progbits
 """
+# instructions that the opcode table leaves out, with the kinds that the inspector names, and some that it has
+UNLISTED = """
+    .text
+    .globl main
+    .type main, @function
+main:
+    vpxord constant(%rip), %zmm1, %zmm0
+    vaddps %zmm1, %zmm0, %zmm0
+    xor %eax, %eax
+    kmovw %eax, %k1
+    femms
+    xbegin aborted
+    xend
+    nop
+aborted:
+    lea constant(%rip), %rcx
+    vaddps %zmm1, %zmm0, %zmm0
+    ret
+    .size main, .-main
+    .section .rodata
+    .globl constant
+    .type constant, @object
+constant:
+    .fill 64
+    .size constant, 64
+    .section .note.GNU-stack,"",@progbits
+"""
+KINDS = ["evex", "evex", "mask", "now3d", "legacy", "legacy", "evex"]
 
 
 def check(holds, words):
@@ -97,16 +127,16 @@ def check(holds, words):
         sys.exit(f"inspector.py: {words}")
 
 
-def run(*words):
-    """Runs the inspector: its status, output and errors."""
-    environment = {**os.environ, "PYTHONPATH": PACKAGE, "FEDDURZAI_LIBRARY": LIBRARY}
+def run(*words, path=None):
+    """Runs the inspector: its status, output and errors. `path` is the folder of all commands that it finds."""
+    environment = {**os.environ, "PYTHONPATH": PACKAGE, "FEDDURZAI_LIBRARY": LIBRARY, "PATH": path or os.environ["PATH"]}
     done = subprocess.run([sys.executable, "-m", "feddurzai", *words], env=environment, stdout=subprocess.PIPE, stderr=subprocess.PIPE, check=False)
     return done.returncode, done.stdout.decode(errors="replace"), done.stderr.decode(errors="replace")
 
 
-def output(*words):
+def output(*words, path=None):
     """The output of the inspector, which succeeds."""
-    status, out, err = run(*words)
+    status, out, err = run(*words, path=path)
     check(status == 0 and not err, f"{' '.join(words)} ended with {status}: {err}")
     return out
 
@@ -222,6 +252,103 @@ def tries_fixed(program):
     check(main in survey.reached_entries(), "main of a program with fixed addresses is not reached")
 
 
+def tries_chunks():
+    """Large code is read in chunks as `iterate` reads it, also where instructions without a row begin in what others end in."""
+    rng = random.Random(79)
+    pieces = [bytes.fromhex(it) for it in ("62f17c4858c1", "62f17d48ef0510000000", "c5fc41c0", "0f0fc19e", "4883ec08", "c3", "0f1f8000000000", "c7f810000000", "06")]
+    for bits in (32, 64):
+        for count in (0, 1, 40, 3000, 9000):
+            some = (rng.choice(pieces) if rng.random() < 0.9 else bytes(rng.randrange(256) for _ in range(rng.randrange(1, 9))) for _ in range(count))
+            code = b"".join(some)
+            wanted = [it for it in feddurzai.iterate(bits, 0x1000, code, unlisted=True) if not isinstance(it, feddurzai.Rest)]
+            at, found = 0, []
+            for chunk in scan.chunks(bits, 0x1000, code, unlisted=True):
+                offsets = chunk.offsets()
+                check(offsets[0] == at and len(chunk.highs) > 0, f"{bits}-bit: a chunk begins at {offsets[0]}, not at {at}")
+                at = offsets[-1]
+                found += [(0x1000 + one, end - one, chunk.unlisted.get(n)) for n, (one, end) in enumerate(zip(offsets, offsets[1:]))]
+            check(at == len(code), f"{bits}-bit: the chunks end at {at}, not at {len(code)}")
+            for ours, item in zip(found, wanted):
+                same = item if isinstance(item, feddurzai.Unlisted) else None
+                check(ours == (item.address, item.len, same), f"{bits}-bit: a chunk has {ours}, and not {item!r}")
+
+
+def tries_unlisted(folder):
+    """Instructions without a row are one line each: with objdump's text where it is installed, which runs once, and else with their bytes."""
+    source, program, bare, counted, ran = (os.path.join(folder, it) for it in ("unlisted.s", "unlisted", "bare", "counted", "ran"))
+    with open(source, "w", encoding="utf-8") as file:
+        file.write(UNLISTED)
+    subprocess.run([CC, source, "-o", program], check=True)
+    subprocess.run([CC, "-c", source, "-o", program + ".o"], check=True)
+    # a folder of commands without objdump, and one with an objdump that counts its runs
+    for path in (bare, counted):
+        os.mkdir(path)
+        if shutil.which("dot"):
+            os.symlink(shutil.which("dot"), os.path.join(path, "dot"))
+    with open(os.path.join(counted, "objdump"), "w", encoding="utf-8") as file:
+        file.write(f"#!/bin/sh\necho run >>'{ran}'\nexec '{shutil.which('objdump')}' \"$@\"\n")
+    os.chmod(os.path.join(counted, "objdump"), 0o755)
+
+    def runs():
+        """How often objdump ran since the last call."""
+        if not os.path.exists(ran):
+            return 0
+        with open(ran, encoding="utf-8") as file:
+            number = len(file.readlines())
+        os.unlink(ran)
+        return number
+
+    def lines(*words, path=None):
+        """The lines of a listing: address, bytes, text."""
+        found = re.findall(r"^  ([0-9a-f]+)  ([0-9a-f]+) +(.*)$", output("list", *words, path=path), re.M)
+        return [(int(at, 16), code, text) for at, code, text in found]
+
+    def theirs(style):
+        """What objdump prints of main: for each address the text, without the address or the symbol after it."""
+        found = tool("objdump", "-d", "-w", "-M", style, "--no-show-raw-insn", "--disassemble=main", program)
+        texts = re.findall(r"^ +([0-9a-f]+):\t(.+)$", found, re.M)
+        return {int(at, 16): " ".join(re.split(" *#| <", text)[0].split()) for at, text in texts}
+
+    for style in ("att", "intel"):
+        wanted, ours = theirs(style), lines(program, "main", "--style", style, path=counted)
+        check(runs() == 1, f"{style}: objdump did not run once")
+        check([it[0] for it in ours] == sorted(wanted), f"{style}: list has other addresses than objdump: {ours}")
+        marked = [it for it in ours if it[2].startswith("(")]
+        check([it[2][1:].split(")")[0] for it in marked] == KINDS, f"{style}: the kinds are those of {marked}")
+        for at, _, text in marked:
+            # objdump prints the target of XBEGIN without 0x where it knows a symbol
+            words = re.sub("^(xbegin) 0x", r"\1 ", text.split(") ")[1].split(" <")[0])
+            check(words == wanted[at], f"{style}: list has {text!r}, objdump {wanted[at]!r}")
+        check(marked[0][2].endswith(" <constant>") and marked[4][2].endswith(" <aborted>"), f"{style}: symbols are missing: {marked}")
+    check(lines(program + ".o", "main")[0][2].endswith(" <constant>"), "the object file's relocation has no symbol")
+
+    plain = lines(program, "main", path=bare)
+    check([it[:2] for it in plain] == [it[:2] for it in ours], f"without objdump list has other instructions: {plain}")
+    texts = [f"({kind}) {code}" for kind, (_, code, _) in zip(KINDS, marked)]
+    check([it[2].split(" <")[0] for it in plain if it[2].startswith("(")] == texts, f"without objdump list has {plain}")
+    coloured = output("list", program, "main", "--colour", "always")
+    check(coloured.count("\x1b[2m(") == len(KINDS), "instructions without a row have no shade of their own on a terminal")
+    items = json.loads(output("list", program, "main", "--json"))
+    check([it["unlisted"] for it in items if "unlisted" in it] == KINDS, f"the JSON has {items}")
+
+    # control goes through them, and from XBEGIN to its target too
+    graph = json.loads(output("graph", program, "main", "--json"))
+    edges = [[it["how"] for it in block["edges"]] for block in graph["blocks"]]
+    check(edges == [["taken", "not taken"], ["next"], []], f"the graph of main is {graph}")
+    if not shutil.which("dot"):
+        print("skipped the page of instructions without a row: Graphviz is not installed")
+        return
+    runs()
+    for path, text in ((counted, "(evex) vaddps zmm0,zmm0,zmm1"), (bare, texts[1])):
+        page = os.path.join(folder, "unlisted.html")
+        output("page", program, "main", "-o", page, path=path)
+        check(runs() == (path == counted), "objdump did not run once for a page")
+        with open(page, encoding="utf-8") as file:
+            html = file.read()
+        check(html.count(f'<span class="unlisted">{text}</span>') == 2, f"the page has not {text!r} twice")
+        check('class="bad"' not in html and 'apart"' not in html, "the page has bytes without an instruction, or lines that are not reached")
+
+
 def tries_hooks(program):
     answers = {it["names"][0]: it for it in json.loads(output("hookable", program, "--json"))}
     check(answers["choose"]["taken"] >= 5 and answers["choose"]["sight"] == "whole", f"choose: {answers['choose']}")
@@ -287,6 +414,9 @@ def main():
         tries_windows(program, fixed)
         tries_exceptions(folder)
         tries_data(folder)
+        tries_chunks()
+        with tempfile.TemporaryDirectory() as other:
+            tries_unlisted(other)
         tries_fixed(fixed)
         tries_fixed(static)
         tries_hooks(program)

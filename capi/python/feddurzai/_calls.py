@@ -1,8 +1,9 @@
 """The functions: decode, print, analyse, encode, move and follow code."""
 
 import struct
-from ctypes import byref, c_char_p, c_size_t, c_uint8, c_uint32, c_void_p, cast
-from typing import Callable, Dict, Iterable, Iterator, List, NamedTuple, Optional, Tuple, Union
+from ctypes import byref, c_char_p, c_size_t, c_uint8, c_uint32, c_void_p, cast, string_at
+from itertools import accumulate, chain, repeat
+from typing import Callable, Dict, Iterable, Iterator, List, NamedTuple, Optional, Sequence, Tuple, Type, Union
 
 from . import _checks, _native
 from ._checks import Buffer
@@ -14,8 +15,10 @@ from ._info import About, encode_of, info_of, name_of, text_of
 from ._unlisted import measured_item
 
 _InstrRoom = _native.room_of(SIZE)
-# how many instructions one call decodes: few at first, because a caller may stop
-_CHUNKS = (16, 256, 2048)
+# how many instructions one call decodes, and the buffer for them: few at first, because a caller may stop, and never so many that the garbage
+# collector looks for garbage among them
+_CHUNKS = tuple((most, _native.room_of(most * SIZE)) for most in (16, 128, 512))
+_ONE = struct.Struct(f"{SIZE}s")
 _BytesRoom = _native.room_of(_native.MAX_LEN)
 _JumpRoom = _native.room_of(_native.MAX_JUMP)
 _NotationRoom = _native.room_of(_native.NOTATION_ROOM)
@@ -35,7 +38,7 @@ def version() -> Tuple[int, int, int]:
     return (number >> 16, number >> 8 & 255, number & 255)
 
 
-_new = Instr.__new__
+_new: Callable[[Type[Instr]], Instr] = Instr.__new__
 
 
 def _read(bits: int, address: int, code: bytes, struct_: bytes) -> Instr:
@@ -103,42 +106,62 @@ def iterate(bits: int, ip: int, code: Buffer, *, unlisted: bool = False) -> Iter
     code = _checks.code_bytes("code", code)
     if bits not in (16, 32, 64):
         raise refusal_of(Reason.BAD_MODE)
-    return _items(bits, ip, code, unlisted)
+    return chain.from_iterable(_items(bits, ip, code, unlisted))
 
 
-def _items(bits: int, ip: int, code: bytes, unlisted: bool) -> Iterator[Item]:
-    mask, at, chunks = (1 << bits) - 1, 0, iter(_CHUNKS)
+def _instrs(bits: int, ip: int, code: bytes, offsets: List[int], structs: bytes) -> List[Instr]:
+    """The instructions of consecutive structs, whose offsets in `code` are given, and that after the last one."""
+    mask = (1 << bits) - 1
+    address = ip + offsets[0] & mask
+    addresses: Iterable[int] = accumulate(structs[LEN_AT::SIZE], initial=address)
+    if address + offsets[-1] - offsets[0] > mask:
+        addresses = [it & mask for it in addresses]
+    instrs = list(map(_new, repeat(Instr, len(offsets) - 1)))
+    for instr, address, start, end, (fields,) in zip(instrs, addresses, offsets, offsets[1:], _ONE.iter_unpack(structs)):
+        instr.address = address
+        instr.bytes = code[start:end]
+        instr._struct = fields
+        instr.bits = bits
+    return instrs
+
+
+def _items(bits: int, ip: int, code: bytes, unlisted: bool) -> Iterator[Sequence[Item]]:
+    """The items for `iterate`, some at a time."""
+    at, chunks = 0, iter(_CHUNKS)
     # the address stays valid as long as `code` is alive
-    chunk, where = 0, cast(c_char_p(code), c_void_p).value or 0
+    where, count = cast(c_char_p(code), c_void_p).value or 0, c_size_t()
     while at < len(code):
-        chunk = next(chunks, chunk)
-        room, count = _native.room_of(chunk * SIZE)(), c_size_t()
-        taken(_native.decode_many(bits, ip + at & _checks.U64, where + at, len(code) - at, room, chunk, byref(count)))
-        structs = room.raw
-        ends = range(SIZE, count.value * SIZE + 1, SIZE)
+        chunk = next(chunks, None)
+        if chunk is not None:
+            most, room = chunk[0], chunk[1]()
+        taken(_native.decode_many(bits, ip + at & _checks.U64, where + at, len(code) - at, room, most, byref(count)))
+        structs = string_at(room, count.value * SIZE)
+        offsets = list(accumulate(structs[LEN_AT::SIZE], initial=at))
+        at = offsets[-1]
         # the high byte of the code tells items apart: no row has 255
-        for end, length, high in zip(ends, structs[LEN_AT::SIZE], structs[HIGH_AT::SIZE]):
-            address = ip + at & mask
-            if high != 0xFF:
-                instr = _new(Instr)
-                instr.address = address
-                instr.bytes = code[at : at + length]
-                instr._struct = structs[end - SIZE : end]
-                instr.bits = bits
-                yield instr
-            elif structs[end - SIZE + LOW_AT] == 0xFF:
-                item = measured_item(bits, address, code, at) if unlisted else None
-                if item is not None:
-                    yield item
-                    # the items after the first byte are not those after the instruction
-                    at += item.len
-                    chunks = iter(_CHUNKS)
-                    break
-                yield BadByte(address, code[at : at + 1])
-            else:
-                yield Rest(address, code[at:])
+        highs = structs[HIGH_AT::SIZE]
+        n = highs.find(0xFF)
+        if n < 0:
+            yield _instrs(bits, ip, code, offsets, structs)
+            continue
+        items: List[Item] = [*_instrs(bits, ip, code, offsets, structs)]
+        while n >= 0:
+            start = offsets[n]
+            address = ip + start & (1 << bits) - 1
+            if structs[n * SIZE + LOW_AT] != 0xFF:
+                yield [*items[:n], Rest(address, code[start:])]
                 return
-            at += length
+            item = measured_item(bits, address, code, start) if unlisted else None
+            if item is not None:
+                # the items after the first byte are not those after the instruction
+                items[n:] = [item]
+                at, chunks = start + item.len, iter(_CHUNKS)
+                break
+            items[n] = BadByte(address, code[start : start + 1])
+            n = highs.find(0xFF, n + 1)
+        yield items
+        # freed before others are made
+        del items
 
 
 def text(bits: int, instr: Instr, syntax: int = Style.INTEL) -> str:

@@ -5,18 +5,20 @@ from __future__ import annotations
 import struct
 from dataclasses import dataclass
 from functools import lru_cache
-from typing import FrozenSet, Optional, Tuple
+from typing import Dict, FrozenSet, Optional, Tuple, TypeVar
 
 from . import _checks, _native
 from ._numbers import Flags, RegClass, Segment, Touch
-from ._operands import ADDRESS_BITS, Register, signed
+from ._operands import ADDRESS_BITS, Register
 from ._refusal import taken
 
 # feddurzai_touched: features, six sets of flags; then memory[4], registers[32], memory_count, register_count
 _SETS = struct.Struct("=Q6I")
 _MEMORY = struct.Struct("=QH7B7x")
 _MEMORY_AT, _REGISTERS_AT, _COUNTS_AT, _SIZE = 32, 128, 224, 232
-_TouchedRoom = _native.room_of(_SIZE)
+# a displacement, the first field of memory
+_VALUE = struct.Struct("=Q")
+_touched = _native.Rooms(_SIZE)
 # the offset of the address size in a feddurzai_instr
 _ASIZE_AT = 102
 
@@ -109,13 +111,22 @@ def _registers_of(numbers: bytes) -> Tuple[RegisterUse, ...]:
     )
 
 
+def _sign_of(numbers: bytes, asize: int) -> Tuple[int, int]:
+    """Two numbers, `half` and `mask`, with which the displacement of a feddurzai_memory_use is `(value + half & mask) - half`: signed if there is a
+    base or an index, else the value itself."""
+    _, _, _, base_class, _, index_class, _, _, _ = _MEMORY.unpack(numbers)
+    if base_class in (RegClass.EIP, RegClass.RIP) or not (base_class or index_class):
+        return 0, _checks.U64
+    bits = ADDRESS_BITS.get(base_class) or ADDRESS_BITS.get(index_class) or asize or 64
+    return 1 << bits - 1, (1 << bits) - 1
+
+
 @lru_cache(maxsize=4096)
 def _memory_of(numbers: bytes, asize: int) -> MemoryUse:
     value, size, segment, base_class, base_number, index_class, index_number, scale, access = _MEMORY.unpack(numbers)
+    half, mask = _sign_of(numbers, asize)
     base, index = _register(base_class, base_number), _register(index_class, index_number)
-    if base_class not in (RegClass.EIP, RegClass.RIP) and (base or index):
-        value = signed(value, ADDRESS_BITS.get(base_class) or ADDRESS_BITS.get(index_class) or asize or 64)
-    return MemoryUse(Segment(segment), base, index, scale, value, size, Touch(access))
+    return MemoryUse(Segment(segment), base, index, scale, (value + half & mask) - half, size, Touch(access))
 
 
 @lru_cache(maxsize=None)
@@ -130,24 +141,69 @@ def _features_of(bits: int) -> FrozenSet[str]:
     return frozenset(_feature_of(bit) for bit in range(bits.bit_length()) if bits >> bit & 1)
 
 
-def effects_of(bits: int, instr: bytes) -> Effects:
-    """What the instruction in a struct touches, in a mode."""
-    room = _TouchedRoom()
-    taken(_native.effects(_checks.number("bits", bits, _checks.U32), instr, room))
-    return _effects_of(room.raw, instr[_ASIZE_AT])
-
-
 # a set of flags, made once: the constructor of `Flags` takes longer than all else here
 _flags_of = lru_cache(maxsize=1024)(Flags)
 
 
+def effects_of(bits: int, instr: bytes) -> Effects:
+    """What the instruction in a struct touches, in a mode."""
+    return known_effects(_checks.number("bits", bits, _checks.U32), instr)
+
+
+# most code has few different instructions, see `known_text`
 @lru_cache(maxsize=8192)
-def _effects_of(told: bytes, asize: int) -> Effects:
-    """What a feddurzai_touched says of an instruction with an address size."""
+def known_effects(bits: int, instr: bytes) -> Effects:
+    """What the instruction in a struct touches, in a mode that has been checked."""
+    taken_out = _touched.take()
+    room, at = taken_out
+    said = _native.bare_effects(bits, instr, at)
+    told: bytes = room.raw
+    _touched.give(taken_out)
+    taken(said)
+    return _effects_of(told, instr[_ASIZE_AT : _ASIZE_AT + 1])
+
+
+# For what the library has said lately, without the displacement of the first memory, and for an address size: the effects of the first such
+# instruction, and two numbers that make a displacement signed, see `_sign_of`. Instructions that were not seen before mostly differ from others in a
+# displacement alone, or in what is no effect, such as their target.
+_shapes: Dict[bytes, Tuple[Effects, int, int]] = {}
+_MOST_SHAPES = 8192
+
+
+def _effects_of(told: bytes, asize: bytes) -> Effects:
+    """What a feddurzai_touched says of an instruction with an address size, which is a byte."""
+    key = told[:_MEMORY_AT] + told[_MEMORY_AT + _VALUE.size :] + asize
+    shape = _shapes.get(key)
+    if shape is None:
+        if len(_shapes) >= _MOST_SHAPES:
+            _shapes.clear()
+        shape = _shapes[key] = _shape_of(told, asize[0])
+    effects, half, mask = shape
+    memory = effects.memory
+    if not memory:
+        return effects
+    displacement = (_VALUE.unpack_from(told, _MEMORY_AT)[0] + half & mask) - half
+    if displacement == memory[0].displacement:
+        return effects
+    return _with(effects, memory=(_with(memory[0], displacement=displacement), *memory[1:]))
+
+
+_Frozen = TypeVar("_Frozen", Effects, MemoryUse)
+
+
+def _with(it: _Frozen, **changes: object) -> _Frozen:
+    """A copy with another field. The constructor of a frozen class takes longer than all else here, because it sets each field by a call."""
+    made = object.__new__(type(it))
+    object.__setattr__(made, "__dict__", {**it.__dict__, **changes})
+    return made
+
+
+def _shape_of(told: bytes, asize: int) -> Tuple[Effects, int, int]:
+    """What a feddurzai_touched says of an instruction with an address size, with the two numbers for the displacement of its first memory."""
     features, read, written, cleared, set_, undefined, kept = _SETS.unpack_from(told)
     memory_count, register_count = told[_COUNTS_AT], told[_COUNTS_AT + 1]
     places = range(_MEMORY_AT, _MEMORY_AT + memory_count * _MEMORY.size, _MEMORY.size)
-    return Effects(
+    effects = Effects(
         _registers_of(told[_REGISTERS_AT : _REGISTERS_AT + 3 * register_count]),
         tuple(_memory_of(told[at : at + _MEMORY.size], asize) for at in places),
         _flags_of(read),
@@ -158,3 +214,4 @@ def _effects_of(told: bytes, asize: int) -> Effects:
         _flags_of(kept),
         _features_of(features),
     )
+    return (effects, *_sign_of(told[_MEMORY_AT : _MEMORY_AT + _MEMORY.size], asize))

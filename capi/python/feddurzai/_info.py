@@ -1,6 +1,7 @@
 """The text, the bytes and the properties of an instruction in a struct."""
 
 import struct
+from ctypes import c_size_t
 from functools import lru_cache
 from typing import NamedTuple, Optional, Tuple
 
@@ -14,7 +15,7 @@ _ABOUT = struct.Struct("=QQ4B")
 _ACCESS_AT, _COUNT_AT, _USES_AT, _ABOUT_SIZE = 20, 24, 25, 56
 # the offsets of the operand kinds in a feddurzai_instr
 _KINDS_AT = (14, 38, 62, 86)
-_AboutRoom = _native.room_of(_ABOUT_SIZE)
+_abouts, _texts, _MAX_TEXT = _native.Rooms(_ABOUT_SIZE), _native.Rooms(_native.MAX_TEXT), c_size_t(_native.MAX_TEXT)
 _BytesRoom = _native.room_of(_native.MAX_LEN)
 _NameRoom = _native.room_of(_native.NAME_ROOM)
 
@@ -69,17 +70,21 @@ def text_of(bits: int, instr: bytes, syntax: int) -> str:
     """The text of the instruction in a struct, in a mode that has been checked."""
     if type(syntax) is not Style:
         syntax = _checks.number("syntax", syntax, _checks.U32)
-    return _text_of(bits, instr, syntax)
+    return known_text(bits, instr, syntax)
 
 
 # most code has few different instructions: of those of gdb, more than half have a text that one of the last thousands had
 @lru_cache(maxsize=8192)
-def _text_of(bits: int, instr: bytes, syntax: int) -> str:
-    room = _native.TextRoom()
-    said = _native.text(bits, syntax, instr, room, _native.MAX_TEXT)
+def known_text(bits: int, instr: bytes, syntax: int) -> str:
+    """The text of the instruction in a struct, in a mode and a style that have been checked."""
+    taken_out = _texts.take()
+    room, at = taken_out
+    said = _native.bare_text(bits, syntax, instr, at, _MAX_TEXT)
+    letters: bytes = room.value
+    _texts.give(taken_out)
     if said < 0:
         raise refusal_of(said)
-    return str(room.value, "ascii")
+    return letters.decode()
 
 
 def encode_of(bits: int, ip: int, instr: bytes) -> bytes:
@@ -90,13 +95,17 @@ def encode_of(bits: int, ip: int, instr: bytes) -> bytes:
     return room.raw[:length]
 
 
+@lru_cache(maxsize=8192)
 def info_of(instr: bytes) -> About:
     """What the instruction in a struct does."""
-    room = _AboutRoom()
-    taken(_native.info(instr, room))
-    about = room.raw
+    taken_out = _abouts.take()
+    room, at = taken_out
+    said = _native.bare_info(instr, at)
+    about: bytes = room.raw
+    _abouts.give(taken_out)
+    taken(said)
     target, ip_address, has_target, has_ip_address, flow, memory_size = _ABOUT.unpack_from(about)
-    ops = sum(1 for at in _KINDS_AT if instr[at])
+    ops = sum(1 for kind_at in _KINDS_AT if instr[kind_at])
     return About(
         _FLOWS[flow],
         target if has_target else None,

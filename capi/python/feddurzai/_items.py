@@ -7,10 +7,10 @@ import sys
 from typing import Any, Optional, Tuple
 
 from . import _checks
-from ._effects import Effects, effects_of
+from ._effects import Effects, effects_of, known_effects
 from ._numbers import ItemKind, Repeat, Segment, Style
 from ._operands import ABSENT, OPERANDS, Memory, Operand, operand_of
-from ._info import About, encode_of, info_of, name_of, text_of
+from ._info import About, encode_of, info_of, known_text, name_of
 
 # feddurzai_instr: four operands, code, len, lock, rep, segment, asize
 _STRUCT = struct.Struct("=" + 4 * "QIH7B3x" + "H5Bx")
@@ -268,7 +268,9 @@ class Instr(Item):
             raise ValueError("a constructed instruction has no mode: pass it, as in text(bits=64)")
         else:
             bits = self.bits
-        return text_of(bits, self._struct, syntax)
+        if type(syntax) is not Style:
+            syntax = _checks.number("syntax", syntax, _checks.U32)
+        return known_text(bits, self._struct, syntax)
 
     def encode(self, bits: int, ip: int) -> Bytes:
         """Returns the shortest bytes that decode to it at the address `ip`: see the function `encode`.
@@ -296,6 +298,7 @@ class Instr(Item):
             bits = self.bits
             if bits is None:
                 raise ValueError("a constructed instruction has no mode: pass it, as in effects(bits=64)")
+            return known_effects(bits, self._struct)
         return effects_of(bits, self._struct)
 
     def _key(self) -> Tuple[int, ...]:
@@ -312,7 +315,7 @@ class Instr(Item):
         return hash(self._key())
 
     def __str__(self) -> str:
-        return self.text() if self.bits is not None else repr(self)
+        return repr(self) if self.bits is None else known_text(self.bits, self._struct, Style.INTEL)
 
     def __repr__(self) -> str:
         if self.bits is not None:

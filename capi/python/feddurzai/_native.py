@@ -4,7 +4,7 @@ from __future__ import annotations
 
 import ctypes
 import os
-from typing import Callable, List, Tuple, Type
+from typing import Any, Callable, List, Tuple, Type
 
 # the interface of the header for which this package is written
 INTERFACE = 7
@@ -54,6 +54,23 @@ def room_of(size: int) -> Type[ctypes.Array[ctypes.c_char]]:
 TextRoom = room_of(MAX_TEXT)
 
 
+class Rooms:
+    """Buffers of one size that are used again. Who needs one takes it out and gives it back, so that no two threads have the same one."""
+
+    def __init__(self, size: int) -> None:
+        self._type = room_of(size)
+        free: List[Tuple[Any, Any]] = []
+        self._pop, self.give = free.pop, free.append
+
+    def take(self) -> Tuple[Any, Any]:
+        """A buffer, and a reference to it for a function of `_bare`. The buffer may hold what an earlier call left."""
+        try:
+            return self._pop()
+        except IndexError:
+            room = self._type()
+            return room, ctypes.byref(room)
+
+
 # short calls keep the interpreter's lock, because releasing it costs more than they take; long calls release it
 _long, _short = _load()
 _u8, _u32, _u64, _size, _at = ctypes.c_uint8, ctypes.c_uint32, ctypes.c_uint64, ctypes.c_size_t, ctypes.c_void_p
@@ -63,6 +80,15 @@ def _call(library: ctypes.CDLL, name: str, *types: type, result: type = ctypes.c
     call = getattr(library, "feddurzai_" + name)
     call.argtypes = types
     call.restype = result
+    taken: Callable[..., int] = call
+    return taken
+
+
+def _bare(library: ctypes.CDLL, name: str) -> Callable[..., int]:
+    """A function without types of its arguments, because to check and convert these takes longer than a short call. Each argument must be an int of
+    32 bits, bytes, a reference of `Rooms`, or a c_size_t."""
+    call = library["feddurzai_" + name]
+    call.restype = ctypes.c_int32
     taken: Callable[..., int] = call
     return taken
 
@@ -79,13 +105,14 @@ offsets = _call(_short, "offsets", _u32, _at, _size, _at)
 measure = _call(_short, "measure", _u32, _at, _size, _at)
 line = _call(_short, "line", _u32, _u32, _u64, _at, _size, _at, _at, _size)
 text = _call(_short, "text", _u32, _u32, _at, _at, _size)
+bare_text = _bare(_short, "text")
 encode = _call(_short, "encode", _u32, _u64, _at, _at, _size)
 encoded_len = _call(_short, "encoded_len", _u32, _u64, _at)
 assemble = _call(_short, "assemble", _u32, _u64, _at, _size, _at, _size)
 read_intel = _call(_short, "read_intel", _u32, _u64, _at, _size, _at)
 jump = _call(_short, "jump", _u32, _u64, _u64, _u32, _at, _size)
-info = _call(_short, "info", _at, _at)
-effects = _call(_short, "effects", _u32, _at, _at)
+bare_info = _bare(_short, "info")
+bare_effects = _bare(_short, "effects")
 full_register = _call(_short, "full_register", _u8, _u8)
 feature_name = _call(_short, "feature_name", _u32, _at, _size)
 name = _call(_short, "name", _u32, _at, _size)

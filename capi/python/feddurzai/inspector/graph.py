@@ -5,13 +5,14 @@ from __future__ import annotations
 import os
 import shutil
 import subprocess
-from typing import Any, Dict, List, NamedTuple, Tuple
+from typing import Any, Dict, List, NamedTuple, Optional, Tuple
 
 import feddurzai
-from feddurzai import Flow, Instr, Item
+from feddurzai import Flow, Instr, Item, Reference, Unlisted
 
 from . import tables
 from .elf import BadFile, Function, Program
+from .objdump import Unlisteds
 from .texts import beside
 
 EDGES = {"taken": "forestgreen", "not taken": "firebrick", "jump": "royalblue", "next": "gray30", "case": "darkorange"}
@@ -34,10 +35,18 @@ class Block:
         self.edges: List[Edge] = []
         self.unresolved = False
         last = items[-1]
+        address = last.address or 0
+        end = address + last.len
+        if isinstance(last, Unlisted):
+            # XBEGIN goes on at its target after an abort
+            is_branch = last.shape.reference is Reference.BRANCH
+            if is_branch and last.target in leaders:
+                self.edges.append(Edge(last.target, "taken"))
+            if end in leaders:
+                self.edges.append(Edge(end, "not taken" if is_branch else "next"))
         if not isinstance(last, Instr):
             return
-        about, address = last.info(), last.address or 0
-        end = address + last.len
+        about = last.info()
         if about.flow in (Flow.JUMP, Flow.CONDITIONAL) and about.target in leaders:
             self.edges.append(Edge(about.target, "jump" if about.flow is Flow.JUMP else "taken"))
         if end in leaders and about.flow is Flow.CONDITIONAL:
@@ -63,15 +72,17 @@ class Graph(NamedTuple):
 
 
 def graph_of(program: Program, function: Function) -> Graph:
-    """The basic blocks that control reaches from the first byte of a function, in ascending order, jump tables included."""
+    """The basic blocks that control reaches from the first byte of a function, in ascending order, jump tables included. Control goes through
+    instructions without a row."""
     code = program.code_of(function)
-    followed = tables.follow(program, function)
+    followed = tables.follow(program, function, unlisted=True)
     entries = {0}
     for table in followed.tables:
         entries.update(target - function.start for target in table.targets)
     by_leader: Dict[int, List[Item]] = {}
-    for at, leader, _ in feddurzai.flow(program.bits, function.start, code, sorted(it for it in entries if 0 <= it < len(code))):
-        item = next(feddurzai.iterate(program.bits, function.start + at, code[at : at + 15]))
+    starts = sorted(it for it in entries if 0 <= it < len(code))
+    for at, leader, _ in feddurzai.flow(program.bits, function.start, code, starts, unlisted=True):
+        item = next(feddurzai.iterate(program.bits, function.start + at, code[at : at + 15], unlisted=True))
         by_leader.setdefault(function.start + leader, []).append(item)
     cases = {table.jump: table.targets for table in followed.tables}
     blocks = [Block(items, by_leader, cases) for _, items in sorted(by_leader.items())]
@@ -83,8 +94,10 @@ def quoted(text: str) -> str:
     return '"' + text.replace("\\", "\\\\").replace('"', '\\"') + '"'
 
 
-def dot_of(program: Program, graph: Graph, style: int) -> str:
-    """A graph in the DOT language: boxes that link to the lines of a page."""
+def dot_of(program: Program, graph: Graph, style: int, unlisted: Optional[Unlisteds] = None) -> str:
+    """A graph in the DOT language: boxes that link to the lines of a page. `unlisted` may have texts that objdump has read."""
+    unlisted = unlisted or Unlisteds(program.bits, style)
+    unlisted.read(item for block in graph.blocks for item in block.items)
     lines = [
         f"digraph {quoted(graph.function.name)} {{",
         '  graph [bgcolor="transparent" splines="polyline"]',
@@ -94,8 +107,9 @@ def dot_of(program: Program, graph: Graph, style: int) -> str:
     for block in graph.blocks:
         texts = []
         for item in block.items:
-            symbol = beside(program, item)
-            texts.append(f"{item.address:x}  {item.text(style)}{' ' + symbol if symbol else ''}")
+            words = unlisted.text(item) if isinstance(item, Unlisted) else item.text(style)
+            symbol = beside(program, item, words)
+            texts.append(f"{item.address:x}  {words}{' ' + symbol if symbol else ''}")
         if block.unresolved:
             texts.append("(where this jump goes is unknown)")
         label = "".join(text.replace("\\", "\\\\").replace('"', '\\"') + "\\l" for text in texts)

@@ -9,8 +9,9 @@ from typing import Any, Dict, Iterator, List, Optional, TextIO, Tuple
 from .. import _native
 from .._items import SIZE
 from .elf import Function, Program
+from .objdump import Unlisteds
 from .scan import BAD, Chunk, Xrefs, chunks, references
-from .texts import Painter, relocation_in
+from .texts import Painter, relocation_in, symbol_beside
 
 _BAD_TEXT = "(bad)"
 # how many texts are kept
@@ -32,19 +33,29 @@ def write_functions(program: Program, out: TextIO) -> None:
             out.write(f"{function.start:0{width}x} {function.size:8} {name}{' (ifunc)' if function.ifunc else ''}\n")
 
 
-# an item of a listing: its address, bytes and text, and the symbol that is shown after the text
-Line = Tuple[int, bytes, str, Optional[str]]
+# an item of a listing: its address, bytes and text, the symbol that is shown after the text, and the kind of an instruction without a row
+Line = Tuple[int, bytes, str, Optional[str], Optional[str]]
 
 
 def _symbols(program: Program, chunk: Chunk, offsets: List[int], start: int) -> Dict[int, Optional[str]]:
     """For the items of a chunk that name an address: the symbol of the address, None if it has none."""
     found = {item: program.symbol_of(target) for item, target, _ in references(chunk)}
     if program.is_object:
-        for item in range(len(offsets) - 1):
+        for item, high in enumerate(chunk.highs):
             name = relocation_in(program, start + offsets[item], offsets[item + 1] - offsets[item])
-            if name is not None:
+            # a single byte is shown as it is
+            if name is not None and (high != BAD or item in chunk.unlisted):
                 found[item] = name
     return found
+
+
+def _unlisted_texts(program: Program, function: Function, style: int) -> Unlisteds:
+    """The texts of the instructions without a row in a function or section, which objdump reads in one run."""
+    texts = Unlisteds(program.bits, style)
+    if texts.by_objdump:
+        some = chunks(program.bits, function.start, program.code_of(function), unlisted=True)
+        texts.read([it for chunk in some for it in chunk.unlisted.values()])
+    return texts
 
 
 def lines(program: Program, function: Function, style: int) -> Iterator[List[Line]]:
@@ -53,19 +64,28 @@ def lines(program: Program, function: Function, style: int) -> Iterator[List[Lin
     text, room, size = _native.text, _native.TextRoom(), _native.MAX_TEXT
     # the text of an instruction that names no address depends on its bytes alone
     known: Dict[bytes, str] = {}
-    for chunk in chunks(bits, start, code):
+    unlisted = _unlisted_texts(program, function, style)
+    for chunk in chunks(bits, start, code, unlisted=True):
         offsets = chunk.offsets()
         symbols = _symbols(program, chunk, offsets, start)
-        found, at = [], chunk.offset
+        found: List[Line] = []
+        at = chunk.offset
         for n, (high, end) in enumerate(zip(chunk.highs, offsets[1:])):
-            bytes_ = code[at:end]
-            words = _BAD_TEXT if high == BAD else known.get(bytes_)
-            if words is None or n in symbols and high != BAD:
-                text(bits, style, chunk.struct_at(n), room, size)
-                words = room.value.decode()
-                if n not in symbols and len(known) < MOST_KNOWN:
-                    known[bytes_] = words
-            found.append((start + at, bytes_, words, symbols.get(n)))
+            bytes_, symbol, item, kind = code[at:end], symbols.get(n), chunk.unlisted.get(n), None
+            words: Optional[str]
+            if item is not None:
+                words, kind = unlisted.text(item), item.shape.kind.name.lower()
+                symbol = symbol or symbol_beside(program, item, words)
+            elif high == BAD:
+                words = _BAD_TEXT
+            else:
+                words = None if n in symbols else known.get(bytes_)
+                if words is None:
+                    text(bits, style, chunk.struct_at(n), room, size)
+                    words = room.value.decode()
+                    if n not in symbols and len(known) < MOST_KNOWN:
+                        known[bytes_] = words
+            found.append((start + at, bytes_, words, symbol, kind))
             at = end
         yield found
 
@@ -85,17 +105,22 @@ def _tails(program: Program, function: Function, style: int) -> Iterator[Tuple[L
     text, room, size = _native.text, _native.TextRoom(), _native.MAX_TEXT
     # the line of an item that names no address depends on its bytes alone, also that of a byte at which no instruction starts
     known: Dict[bytes, str] = {}
-    for chunk in chunks(bits, function.start, code):
+    unlisted = _unlisted_texts(program, function, style)
+    for chunk in chunks(bits, function.start, code, unlisted=True):
         offsets, structs, highs = chunk.offsets(), chunk.structs, chunk.highs
         symbols = _symbols(program, chunk, offsets, function.start)
         items = [code[at:end] for at, end in zip(offsets, offsets[1:])]
         for n, symbol in symbols.items():
             # no cached line has this key
-            if highs[n] != BAD:
+            if n not in chunk.unlisted:
                 text(bits, style, structs[n * SIZE : (n + 1) * SIZE], room, size)
                 beside = f" <{symbol}>\n" if symbol is not None else "\n"
                 symbols[n] = f"{items[n].hex():30} {str(room.value, 'ascii')}{beside}"
         tails = list(map(known.get, items))
+        for n, item in chunk.unlisted.items():
+            words = unlisted.text(item)
+            symbol = symbols.get(n) or symbol_beside(program, item, words)
+            symbols[n] = f"{items[n].hex():30} {words}{'' if symbol is None else f' <{symbol}>'}\n"
         for n, tail in enumerate(tails):
             if tail is None and n not in symbols:
                 words = _BAD_TEXT
@@ -106,8 +131,7 @@ def _tails(program: Program, function: Function, style: int) -> Iterator[Tuple[L
                 if len(known) < MOST_KNOWN:
                     known[items[n]] = tail
         for n, tail in symbols.items():
-            if highs[n] != BAD:
-                tails[n] = tail
+            tails[n] = tail
         yield offsets, [tail or "" for tail in tails]
 
 
@@ -132,11 +156,11 @@ def write(program: Program, function: Function, style: int, colours: bool, out: 
     width, painter, headed = program.bits // 4, Painter(True), set(program.starts)
     for some in lines(program, function, style):
         written = []
-        for address, code, text, symbol in some:
+        for address, code, text, symbol, kind in some:
             if address in headed:
                 written.append(_heading(program, painter, address, xrefs))
             beside = "" if symbol is None else f" <{symbol}>"
-            words = painter.paint("bad", text) if text is _BAD_TEXT else painter.text(text)
+            words = painter.paint("bad", text) if text is _BAD_TEXT else painter.text(text) if kind is None else painter.paint("unlisted", text)
             where, bytes_ = painter.paint("address", f"{address:0{width}x}"), painter.paint("bytes", f"{code.hex():30}")
             written.append(f"  {where}  {bytes_} {words}{painter.paint('symbol', beside)}\n")
         out.write("".join(written))
@@ -146,10 +170,12 @@ def write_json(program: Program, function: Function, style: int, out: TextIO) ->
     """Writes the items of a function or section as a JSON array, one item a line."""
     separator = "[\n"
     for some in lines(program, function, style):
-        for address, code, text, symbol in some:
+        for address, code, text, symbol, kind in some:
             item = {"address": address, "bytes": code.hex(), "text": text}
             if symbol is not None:
                 item["symbol"] = symbol
+            if kind is not None:
+                item["unlisted"] = kind
             out.write(separator + json.dumps(item))
             separator = ",\n"
     out.write("[]\n" if separator == "[\n" else "\n]\n")

@@ -3,6 +3,7 @@
 from __future__ import annotations
 
 import struct
+from bisect import bisect_left
 from ctypes import byref, c_char_p, c_size_t, c_uint8, c_uint32, c_void_p, cast
 from itertools import accumulate, chain, compress
 from typing import Dict, FrozenSet, Iterable, Iterator, List, NamedTuple, Optional, Sequence, Tuple
@@ -13,25 +14,30 @@ from .._info import info_of, name_of
 from .._items import HIGH_AT, LEN_AT, LOW_AT, SIZE
 from .._numbers import Flow, OperandKind, RegClass
 from .._refusal import taken
+from .._unlisted import Unlisted, measured_item
 from .elf import Program
 
 CHUNK = 4096
+# how many items are decoded after an instruction without a row at whose end no decoded item begins
+_FEW = 32
 _OP_SIZE, _KIND_AT, _BASE_AT = 24, 14, 15
 _KINDS_AT = tuple(_OP_SIZE * n + _KIND_AT for n in range(4))
 _Room = _native.room_of(CHUNK * SIZE)
 _VALUE = struct.Struct("=Q")
 # a struct in numbers of eight bytes: each operand begins with one, its value
 _STEP = SIZE // 8
-# no row has a code with this high byte: the item is a single byte
+# no row has a code with this high byte: the item is a single byte, or an instruction without a row
 BAD = 0xFF
 _POINTERS = (RegClass.EIP, RegClass.RIP)
 
 
 class Chunk(NamedTuple):
-    """Consecutive items of some code: the offset of the first one, and a struct for each."""
+    """Consecutive items of some code: the offset of the first one, a struct for each, and by their numbers the items that are instructions
+    without a row, whose structs have a length alone."""
 
     offset: int
     structs: bytes
+    unlisted: Dict[int, Unlisted]
 
     @property
     def lengths(self) -> bytes:
@@ -39,7 +45,7 @@ class Chunk(NamedTuple):
 
     @property
     def highs(self) -> bytes:
-        """For each item the high byte of its code; BAD for a single byte."""
+        """For each item the high byte of its code; BAD for a single byte and for an instruction without a row."""
         return self.structs[HIGH_AT::SIZE]
 
     def offsets(self) -> List[int]:
@@ -65,16 +71,55 @@ def code_of(fields: bytes) -> int:
     return fields[LOW_AT] + 256 * fields[HIGH_AT]
 
 
-def chunks(bits: int, start: int, code: bytes) -> Iterator[Chunk]:
-    """The items of some code, from its first byte on."""
+def _length_alone(length: int) -> bytes:
+    """The struct of an item of several bytes that is no instruction of the table."""
+    fields = bytearray(SIZE)
+    fields[LOW_AT] = fields[HIGH_AT] = BAD
+    fields[LEN_AT] = length
+    return bytes(fields)
+
+
+def _joined(bits: int, start: int, code: bytes, chunk: Chunk) -> Chunk:
+    """A chunk of single bytes and instructions of the table, with the bytes of each instruction without a row as one item. It ends after the
+    first of these at whose end none of its items begins."""
+    offsets, parts, found = chunk.offsets(), [], {}
+    # the next item to be taken over, and the number of those that are
+    item = count = 0
+    for n in _places(chunk.highs, BAD):
+        unlisted = None
+        if n >= item and chunk.structs[n * SIZE + LOW_AT] == BAD:
+            unlisted = measured_item(bits, start + offsets[n] & (1 << bits) - 1, code, offsets[n])
+        if unlisted is None:
+            continue
+        count += n - item
+        parts += [chunk.structs[item * SIZE : n * SIZE], _length_alone(unlisted.len)]
+        found[count] = unlisted
+        count += 1
+        end = offsets[n] + unlisted.len
+        # decoding depends on nothing before the first byte, so the items from there on are those that follow the instruction
+        item = bisect_left(offsets, end)
+        if item == len(offsets) or offsets[item] != end:
+            return Chunk(chunk.offset, b"".join(parts), found)
+    return Chunk(chunk.offset, b"".join([*parts, chunk.structs[item * SIZE :]]), found)
+
+
+def chunks(bits: int, start: int, code: bytes, unlisted: bool = False) -> Iterator[Chunk]:
+    """The items of some code, from its first byte on. With `unlisted`, an instruction without a row that `measure` measures is one item, and
+    else its bytes are items of their own."""
     room, count = _Room(), c_size_t()
     # the address stays valid as long as `code` is alive
-    at, where = 0, cast(c_char_p(code), c_void_p).value or 0
+    at, where, most = 0, cast(c_char_p(code), c_void_p).value or 0, CHUNK
     while at < len(code):
-        taken(_native.decode_many(bits, start + at & _checks.U64, where + at, len(code) - at, room, CHUNK, byref(count)))
-        chunk = Chunk(at, room.raw[: count.value * SIZE])
-        yield chunk
+        taken(_native.decode_many(bits, start + at & _checks.U64, where + at, len(code) - at, room, most, byref(count)))
+        chunk = Chunk(at, room.raw[: count.value * SIZE], {})
         at += sum(chunk.lengths)
+        most = min(CHUNK, 8 * most)
+        if unlisted and BAD in chunk.highs:
+            chunk = _joined(bits, start, code, chunk)
+            end = chunk.offset + sum(chunk.lengths)
+            if end != at:
+                at, most = end, _FEW
+        yield chunk
 
 
 _ONLY = [bytes(int(byte == value) for byte in range(256)) for value in range(256)]
@@ -150,15 +195,16 @@ class Reached(NamedTuple):
     kinds: bytes
 
 
-def reach(bits: int, base: int, code: bytes, entries: Iterable[int]) -> Reached:
-    """Follows control from some offsets of at most MAX_FLOW bytes."""
+def reach(bits: int, base: int, code: bytes, entries: Iterable[int], unlisted: bool = False) -> Reached:
+    """Follows control from some offsets of at most MAX_FLOW bytes. With `unlisted`, it goes through instructions without a row."""
     chosen = sorted(set(entries))
     room = len(code)
     if not room or not chosen:
         return Reached((), b"")
     starts, leaders, kinds = (c_uint32 * room)(), (c_uint32 * room)(), (c_uint8 * room)()
+    call = _native.flow_unlisted if unlisted else _native.flow_from
     count = taken(
-        _native.flow_from(
+        call(
             *(bits, base, code, room, (c_uint32 * len(chosen))(*chosen), len(chosen)),
             *(starts, room, leaders, room, kinds, room),
         )
@@ -173,7 +219,7 @@ class Xrefs:
         self.branches: Dict[int, List[int]] = {}
         self.data: Dict[int, List[int]] = {}
         for section in program.code_sections():
-            for chunk in chunks(program.bits, section.start, section.code):
+            for chunk in chunks(program.bits, section.start, section.code, unlisted=True):
                 offsets = chunk.offsets()
                 for item, target, is_branch in references(chunk):
                     found = self.branches if is_branch else self.data

@@ -176,13 +176,13 @@ def _window(bits: int, start: int, code: bytes, starts: Sequence[int], upto: int
     return found
 
 
-def follow(program: Program, function: Function, entries: Sequence[int] = (0,)) -> Flow:
-    """Follows control through a function, also through its jump tables."""
+def follow(program: Program, function: Function, entries: Sequence[int] = (0,), unlisted: bool = False) -> Flow:
+    """Follows control through a function, also through its jump tables, and with `unlisted` through instructions without a row."""
     code = program.code_of(function)
     chosen: Set[int] = set(entries)
     tables: Dict[int, Optional[Table]] = {}
     while True:
-        reached = reach(program.bits, function.start, code, chosen)
+        reached = reach(program.bits, function.start, code, chosen, unlisted)
         jumps = [it for it, kind in zip(reached.starts, reached.kinds) if kind == feddurzai.Flow.INDIRECT_JUMP and it not in tables]
         if not jumps:
             break

@@ -9,14 +9,14 @@ import sys
 from typing import Iterator, Optional, TextIO, Tuple
 
 import feddurzai
-from feddurzai import Instr, Item
+from feddurzai import Instr, Item, Unlisted
 
 from .elf import Program
 
 PARTS = re.compile(r"(?P<number>\b0x[0-9a-f]+|\$?\b[0-9][0-9a-f]*h?\b)|(?P<word>%?[a-z][a-z0-9]*)|(?P<rest>\s+|[^\sa-z0-9%]+|.)")
 SIZES = {"byte", "word", "dword", "qword", "fword", "tword", "oword", "yword", "xmmword", "ymmword", "ptr", "short", "near", "far", "rel"}
 REGISTERS = {*feddurzai.registers(), "st"}
-COLOURS = {"address": 90, "bytes": 90, "mnemonic": 36, "register": 33, "number": 35, "size": 90, "symbol": 32, "title": 1, "bad": 31, "note": 90}
+COLOURS = {"address": 90, "bytes": 90, "mnemonic": 36, "register": 33, "number": 35, "size": 90, "symbol": 32, "title": 1, "bad": 31, "note": 90, "unlisted": 2}
 
 
 def parts_of(text: str) -> Iterator[Tuple[str, str]]:
@@ -38,6 +38,8 @@ def parts_of(text: str) -> Iterator[Tuple[str, str]]:
 
 def target_of(item: Item) -> Optional[int]:
     """The address that an instruction names: its near target, or that of its operand at RIP; else None."""
+    if isinstance(item, Unlisted):
+        return item.target
     if not isinstance(item, Instr):
         return None
     about = item.info()
@@ -51,15 +53,20 @@ def relocation_in(program: Program, address: int, size: int) -> Optional[str]:
     return next((program.relocated[at] for at in range(address, address + size) if at in program.relocated), None)
 
 
-def beside(program: Program, item: Item) -> str:
-    """What is written after an instruction's text: the symbol of the address that it names, in angle brackets."""
-    if program.is_object:
-        name = relocation_in(program, item.address or 0, item.len)
-        if name is not None:
-            return f"<{name}>"
+def symbol_beside(program: Program, item: Item, text: str) -> Optional[str]:
+    """The symbol of the address that an instruction names, None if there is none. For an instruction without a row it may be the address itself,
+    if the instruction's text does not have it."""
     target = target_of(item)
-    symbol = None if target is None else program.symbol_of(target)
-    return "" if symbol is None else f"<{symbol}>"
+    if target is None:
+        return None
+    symbol, address = program.symbol_of(target), f"{target:#x}"
+    return address if symbol is None and isinstance(item, Unlisted) and address not in text else symbol
+
+
+def beside(program: Program, item: Item, text: str) -> str:
+    """What is written after an instruction's text: the symbol of the address that it names, in angle brackets."""
+    name = relocation_in(program, item.address or 0, item.len) or symbol_beside(program, item, text)
+    return "" if name is None else f"<{name}>"
 
 
 class Painter:
