@@ -1487,19 +1487,19 @@ static void check_ruled_detours(void)
     /* the least entry within */
     CHECK(DETOUR(small, FEDDURZAI_START_MOVED, 0, at_4, 3), FEDDURZAI_ENTERED);
     CHECK(r->detour.at == 4 && r->detour.target == 4, 1);
-    /* a trampoline of 8 bytes on the last byte, or with its last byte on the first one, of the function */
+    /* a trampoline of 11 bytes on the last byte, or with its last byte on the first one, of the function */
     CHECK(DETOUR_AT(0x1006, small, FEDDURZAI_START_MOVED, 0, NULL, 0), FEDDURZAI_OVERLAPS);
     CHECK(r->detour.at | r->detour.target, 0);
-    CHECK(DETOUR_AT(0xff9, small, FEDDURZAI_START_MOVED, 0, NULL, 0), FEDDURZAI_OVERLAPS);
+    CHECK(DETOUR_AT(0xff6, small, FEDDURZAI_START_MOVED, 0, NULL, 0), FEDDURZAI_OVERLAPS);
     /* before the entry within */
     CHECK(DETOUR_AT(0x1000, small, FEDDURZAI_START_MOVED, 1, at_4, 3), FEDDURZAI_OVERLAPS);
     CHECK(NOTHING_IS_SEEN(), 1);
     CHECK(is_untouched(patch, FEDDURZAI_MAX_PATCH) && is_untouched(out, 64) && is_untouched(moved, 4 * sizeof *moved), 1);
 
     CHECK(DETOUR_AT(0x1007, small, FEDDURZAI_START_MOVED, 1, NULL, 0), 0);
-    CHECK(r->detour.bytes, 8);
-    CHECK(DETOUR_AT(0xff8, small, FEDDURZAI_START_MOVED, 1, outside, 4), 0);
-    CHECK(r->detour.bytes, 8);
+    CHECK(r->detour.bytes, 11);
+    CHECK(DETOUR_AT(0xff5, small, FEDDURZAI_START_MOVED, 1, outside, 4), 0);
+    CHECK(r->detour.bytes, 11);
     CHECK(r->view.sight | r->view.is_entered | r->view.has_inside | r->view.has_suspect, 0);
 
     memset(patch, 0xaa, FEDDURZAI_MAX_PATCH);
