@@ -21,7 +21,7 @@ _PARTS = struct.Struct(f"=32sQ{_COUNTS_AT + 2 - 40}s")
 _touched = _native.Rooms(_SIZE)
 # the offsets of the first operand's kind and of the address size in a feddurzai_instr, which begins with that operand's value
 _KIND_AT, _ASIZE_AT = 14, 102
-_NO_TARGET = bytes(8)
+_NEAR, _NO_TARGET = int(OperandKind.NEAR), bytes(8)
 
 
 @dataclass(frozen=True)
@@ -156,8 +156,8 @@ def effects_of_decoded(bits: int, instr: bytes) -> Effects:
 
     The target of a near branch is no effect, and nearly every branch has another: without it, branches are found among those that were seen.
     """
-    if instr[_KIND_AT] == OperandKind.NEAR:
-        instr = _NO_TARGET + instr[len(_NO_TARGET) :]
+    if instr[_KIND_AT] == _NEAR:
+        instr = _NO_TARGET + instr[8:]
     return _known_effects(bits, instr)
 
 
