@@ -253,8 +253,25 @@ def items_are_those_of_decode():
                     if shape is not None:
                         want = f.Unlisted(address, source[at : at + shape.len], shape, shape.target(bits, address))
                 assert (item, item.address, item.bytes, item.kind) == (want, address, want.bytes, want.kind), (at, item, want)
+                # the method finds a near branch by another's effects, the function does not
+                assert item.kind is not f.ItemKind.INSTRUCTION or item.effects() == f.effects(bits, item), (at, item)
                 at += item.len
             check(at, len(source))
+
+
+def branches_have_equal_effects():
+    """Near branches of one form to several targets, by the method, which leaves out the target, and by the function."""
+    forms = [f"{opcode:02x}" for opcode in (*range(0x70, 0x80), 0xE0, 0xE1, 0xE2, 0xE3, 0xE8, 0xE9, 0xEB)] + [f"0f{opcode:02x}" for opcode in range(0x80, 0x90)]
+    for bits in (16, 32, 64):
+        for form in forms:
+            for prefix in ("", "66", "67", "6667", "f2", "2e", "48"):
+                for rest in ("00000000", "7f000000", "80ffffff", "00800000", "ffffff7f"):
+                    try:
+                        branch = f.decode(bits, 0x8000, code(prefix + form + rest))
+                    except f.Refusal:
+                        continue
+                    if branch.ops and isinstance(branch.ops[0], f.Near):
+                        check(branch.effects(), f.effects(bits, branch))
 
 
 def texts_are_read():
@@ -695,6 +712,7 @@ for test in (
     made_instructions,
     items_say_what_they_are,
     items_are_those_of_decode,
+    branches_have_equal_effects,
     texts_are_read,
     jumps_have_forms,
     moved_as_blocks,

@@ -6,8 +6,9 @@
 //
 // No byte of the program's code is changed, but its code is not executable: the tool takes that permission from what is mapped at the start, and from
 // what the program maps later, such as libraries that it opens. So control comes to no instruction without a fault, at which the tool goes on in the
-// instruction's slot. The slot ends with a jump back to the next instruction, which is the next fault: one fault for each instruction. What a program
-// writes as code, and code that replaces other code at the same address, is stepped too, but not code that changes while it is executable.
+// instruction's slot. The slot ends with a jump back to the next instruction, which is the next fault: one fault for each instruction. Code that replaces
+// other code at the same address, as when a library is closed and another opened, is stepped too, but not code that changes while it may be executed. The
+// vDSO is hidden from the program, which makes system calls instead.
 //
 // -r makes calls by feddurzai_step_call: the program finds its own return addresses on the stack, and not those of slots.
 // -n ends the program after so many instructions.
@@ -82,7 +83,7 @@ static void tell(void)
     clock_gettime(CLOCK_MONOTONIC, &now);
     double seconds = (double)(now.tv_sec - started.tv_sec) + (double)(now.tv_nsec - started.tv_nsec) / 1e9;
     fprintf(stderr, "%" PRIu64 " instructions executed at %" PRIu64 " addresses; without a row: %" PRIu64 " at %" PRIu64 "; at their own address: %" PRIu64
-        " at %" PRIu64 "; %" PRIu64 " addresses with new code; %zu pools of slots; %.1f seconds\n", executed, addresses, executed_unlisted, addresses_unlisted,
+        " at %" PRIu64 "; %" PRIu64 " addresses were given up with their code; %zu pools of slots; %.1f seconds\n", executed, addresses, executed_unlisted, addresses_unlisted,
         refused_runs, refused_count, forgotten, pool_count, seconds);
 }
 

@@ -117,10 +117,10 @@ def _instrs(bits: int, ip: int, code: bytes, offsets: List[int], structs: bytes)
     if address + offsets[-1] - offsets[0] > mask:
         addresses = [it & mask for it in addresses]
     instrs = list(map(_new, repeat(Instr, len(offsets) - 1)))
-    for instr, address, start, end, (fields,) in zip(instrs, addresses, offsets, offsets[1:], _ONE.iter_unpack(structs)):
-        instr.address = address
+    instr: Instr
+    # the loop itself sets two fields, which is faster than by names of their own
+    for instr, instr.address, start, end, (instr._struct,) in zip(instrs, addresses, offsets, offsets[1:], _ONE.iter_unpack(structs)):
         instr.bytes = code[start:end]
-        instr._struct = fields
         instr.bits = bits
     return instrs
 

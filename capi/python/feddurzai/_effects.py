@@ -5,22 +5,23 @@ from __future__ import annotations
 import struct
 from dataclasses import dataclass
 from functools import lru_cache
-from typing import Dict, FrozenSet, Optional, Tuple, TypeVar
+from typing import Any, Dict, FrozenSet, NamedTuple, Optional, Tuple
 
 from . import _checks, _native
-from ._numbers import Flags, RegClass, Segment, Touch
+from ._numbers import Flags, OperandKind, RegClass, Segment, Touch
 from ._operands import ADDRESS_BITS, Register
-from ._refusal import taken
+from ._refusal import refusal_of, taken
 
 # feddurzai_touched: features, six sets of flags; then memory[4], registers[32], memory_count, register_count
 _SETS = struct.Struct("=Q6I")
 _MEMORY = struct.Struct("=QH7B7x")
 _MEMORY_AT, _REGISTERS_AT, _COUNTS_AT, _SIZE = 32, 128, 224, 232
-# a displacement, the first field of memory
-_VALUE = struct.Struct("=Q")
+# the sets, the displacement of the first memory, and all else
+_PARTS = struct.Struct(f"=32sQ{_COUNTS_AT + 2 - 40}s")
 _touched = _native.Rooms(_SIZE)
-# the offset of the address size in a feddurzai_instr
-_ASIZE_AT = 102
+# the offsets of the first operand's kind and of the address size in a feddurzai_instr, which begins with that operand's value
+_KIND_AT, _ASIZE_AT = 14, 102
+_NEAR, _NO_TARGET = int(OperandKind.NEAR), bytes(8)
 
 
 @dataclass(frozen=True)
@@ -147,59 +148,71 @@ _flags_of = lru_cache(maxsize=1024)(Flags)
 
 def effects_of(bits: int, instr: bytes) -> Effects:
     """What the instruction in a struct touches, in a mode."""
-    return known_effects(_checks.number("bits", bits, _checks.U32), instr)
+    return _known_effects(_checks.number("bits", bits, _checks.U32), instr)
+
+
+def effects_of_decoded(bits: int, instr: bytes) -> Effects:
+    """What the decoded instruction in a struct touches, in the mode in which it was decoded.
+
+    The target of a near branch is no effect, and nearly every branch has another: without it, branches are found among those that were seen.
+    """
+    if instr[_KIND_AT] == _NEAR:
+        instr = _NO_TARGET + instr[8:]
+    return _known_effects(bits, instr)
 
 
 # most code has few different instructions, see `known_text`
 @lru_cache(maxsize=8192)
-def known_effects(bits: int, instr: bytes) -> Effects:
+def _known_effects(bits: int, instr: bytes) -> Effects:
     """What the instruction in a struct touches, in a mode that has been checked."""
     taken_out = _touched.take()
     room, at = taken_out
     said = _native.bare_effects(bits, instr, at)
-    told: bytes = room.raw
+    front, displacement, rest = _PARTS.unpack_from(room)
     _touched.give(taken_out)
-    taken(said)
-    return _effects_of(told, instr[_ASIZE_AT : _ASIZE_AT + 1])
+    if said < 0:
+        raise refusal_of(said)
+    return _effects_of(front, displacement, rest, instr[_ASIZE_AT])
 
 
-# For what the library has said lately, without the displacement of the first memory, and for an address size: the effects of the first such
-# instruction, and two numbers that make a displacement signed, see `_sign_of`. Instructions that were not seen before mostly differ from others in a
-# displacement alone, or in what is no effect, such as their target.
-_shapes: Dict[bytes, Tuple[Effects, int, int]] = {}
+class _Shape(NamedTuple):
+    """What the library has said of an instruction, without the displacement of its first memory: the effects of the first such instruction, their
+    fields and those of this memory, and two numbers that make a displacement signed, see `_sign_of`. Instructions that were not seen before
+    mostly differ from others in a displacement alone."""
+
+    effects: Effects
+    fields: Dict[str, Any]
+    memory_fields: Dict[str, Any]
+    half: int
+    mask: int
+
+
+_shapes: Dict[Tuple[bytes, bytes, int], _Shape] = {}
 _MOST_SHAPES = 8192
+_new, _set = object.__new__, object.__setattr__
 
 
-def _effects_of(told: bytes, asize: bytes) -> Effects:
-    """What a feddurzai_touched says of an instruction with an address size, which is a byte."""
-    key = told[:_MEMORY_AT] + told[_MEMORY_AT + _VALUE.size :] + asize
+def _effects_of(front: bytes, displacement: int, rest: bytes, asize: int) -> Effects:
+    """What a feddurzai_touched says of an instruction with an address size."""
+    key = front, rest, asize
     shape = _shapes.get(key)
     if shape is None:
         if len(_shapes) >= _MOST_SHAPES:
             _shapes.clear()
-        shape = _shapes[key] = _shape_of(told, asize[0])
-    effects, half, mask = shape
-    memory = effects.memory
-    if not memory:
+        shape = _shapes[key] = _shape_of(_PARTS.pack(front, displacement, rest), asize)
+    effects, fields, memory_fields, half, mask = shape
+    displacement = (displacement + half & mask) - half
+    if not memory_fields or memory_fields["displacement"] == displacement:
         return effects
-    displacement = (_VALUE.unpack_from(told, _MEMORY_AT)[0] + half & mask) - half
-    if displacement == memory[0].displacement:
-        return effects
-    return _with(effects, memory=(_with(memory[0], displacement=displacement), *memory[1:]))
-
-
-_Frozen = TypeVar("_Frozen", Effects, MemoryUse)
-
-
-def _with(it: _Frozen, **changes: object) -> _Frozen:
-    """A copy with another field. The constructor of a frozen class takes longer than all else here, because it sets each field by a call."""
-    made = object.__new__(type(it))
-    object.__setattr__(made, "__dict__", {**it.__dict__, **changes})
+    # The constructor of a frozen class takes longer than all else here, because it sets each field by a call.
+    memory, made = _new(MemoryUse), _new(Effects)
+    _set(memory, "__dict__", {**memory_fields, "displacement": displacement})
+    _set(made, "__dict__", {**fields, "memory": (memory, *effects.memory[1:])})
     return made
 
 
-def _shape_of(told: bytes, asize: int) -> Tuple[Effects, int, int]:
-    """What a feddurzai_touched says of an instruction with an address size, with the two numbers for the displacement of its first memory."""
+def _shape_of(told: bytes, asize: int) -> _Shape:
+    """The shape of a feddurzai_touched."""
     features, read, written, cleared, set_, undefined, kept = _SETS.unpack_from(told)
     memory_count, register_count = told[_COUNTS_AT], told[_COUNTS_AT + 1]
     places = range(_MEMORY_AT, _MEMORY_AT + memory_count * _MEMORY.size, _MEMORY.size)
@@ -214,4 +227,5 @@ def _shape_of(told: bytes, asize: int) -> Tuple[Effects, int, int]:
         _flags_of(kept),
         _features_of(features),
     )
-    return (effects, *_sign_of(told[_MEMORY_AT : _MEMORY_AT + _MEMORY.size], asize))
+    memory_fields = vars(effects.memory[0]) if effects.memory else {}
+    return _Shape(effects, vars(effects), memory_fields, *_sign_of(told[_MEMORY_AT : _MEMORY_AT + _MEMORY.size], asize))

@@ -7,7 +7,7 @@ import sys
 from typing import Any, Optional, Tuple
 
 from . import _checks
-from ._effects import Effects, effects_of, known_effects
+from ._effects import Effects, effects_of, effects_of_decoded
 from ._numbers import ItemKind, Repeat, Segment, Style
 from ._operands import ABSENT, OPERANDS, Memory, Operand, operand_of
 from ._info import About, encode_of, info_of, known_text, name_of
@@ -298,7 +298,7 @@ class Instr(Item):
             bits = self.bits
             if bits is None:
                 raise ValueError("a constructed instruction has no mode: pass it, as in effects(bits=64)")
-            return known_effects(bits, self._struct)
+            return effects_of_decoded(bits, self._struct)
         return effects_of(bits, self._struct)
 
     def _key(self) -> Tuple[int, ...]:
