@@ -4,6 +4,7 @@ from __future__ import annotations
 
 import bisect
 import json
+from itertools import islice
 from typing import Any, Dict, Iterator, List, Optional, TextIO, Tuple
 
 from .. import _native
@@ -16,6 +17,8 @@ from .texts import Painter, relocation_in, symbol_beside
 _BAD_TEXT = "(bad)"
 # how many texts are kept
 MOST_KNOWN = 1 << 18
+# how many chunks are decoded before objdump is asked about what is in them
+MANY = 64
 
 
 def functions(program: Program) -> List[Dict[str, Any]]:
@@ -49,13 +52,12 @@ def _symbols(program: Program, chunk: Chunk, offsets: List[int], start: int) -> 
     return found
 
 
-def _unlisted_texts(program: Program, function: Function, style: int) -> Unlisteds:
-    """The texts of the instructions without a row in a function or section, which objdump reads in one run."""
-    texts = Unlisteds(program.bits, style)
-    if texts.by_objdump:
-        some = chunks(program.bits, function.start, program.code_of(function), unlisted=True)
-        texts.read([it for chunk in some for it in chunk.unlisted.values()])
-    return texts
+def _chunks(program: Program, function: Function, unlisted: Unlisteds) -> Iterator[Chunk]:
+    """The items of a function or section. objdump reads the instructions without a row of many chunks in one run."""
+    some = chunks(program.bits, function.start, program.code_of(function), unlisted=True)
+    while part := list(islice(some, MANY)):
+        unlisted.read(it for chunk in part for it in chunk.unlisted.values())
+        yield from part
 
 
 def lines(program: Program, function: Function, style: int) -> Iterator[List[Line]]:
@@ -64,8 +66,8 @@ def lines(program: Program, function: Function, style: int) -> Iterator[List[Lin
     text, room, size = _native.text, _native.TextRoom(), _native.MAX_TEXT
     # the text of an instruction that names no address depends on its bytes alone
     known: Dict[bytes, str] = {}
-    unlisted = _unlisted_texts(program, function, style)
-    for chunk in chunks(bits, start, code, unlisted=True):
+    unlisted = Unlisteds(bits, style)
+    for chunk in _chunks(program, function, unlisted):
         offsets = chunk.offsets()
         symbols = _symbols(program, chunk, offsets, start)
         found: List[Line] = []
@@ -105,8 +107,8 @@ def _tails(program: Program, function: Function, style: int) -> Iterator[Tuple[L
     text, room, size = _native.text, _native.TextRoom(), _native.MAX_TEXT
     # the line of an item that names no address depends on its bytes alone, also that of a byte at which no instruction starts
     known: Dict[bytes, str] = {}
-    unlisted = _unlisted_texts(program, function, style)
-    for chunk in chunks(bits, function.start, code, unlisted=True):
+    unlisted = Unlisteds(bits, style)
+    for chunk in _chunks(program, function, unlisted):
         offsets, structs, highs = chunk.offsets(), chunk.structs, chunk.highs
         symbols = _symbols(program, chunk, offsets, function.start)
         items = [code[at:end] for at, end in zip(offsets, offsets[1:])]
