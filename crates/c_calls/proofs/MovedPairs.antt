@@ -6,7 +6,6 @@ use Rattle.x86_values.specs.declared.Bits.{Bits}
 use Rattle.x86_values.specs.Wrapping.{modulo_width}
 use Rattle.move_goals.specs.declared.items.Placed.{Placed}
 use Rattle.block_encoder.specs.Moved.{MovedLists}
-use Rattle.detour.specs.declared.start.MoveRule.{MoveRule}
 use Rattle.detour.specs.declared.rules.HookRules.{HookRules}
 use Rattle.detour.specs.declared.rules.SeenDetour.{SeenDetour}
 use Rattle.detour.specs.Detours.{IsDetour, DetourState}
@@ -24,10 +23,10 @@ same-length items place m =
     length-map-range_with_len (place_at m.starts place) 0 (moved_count items)
     ∙ sym (length-map-range_with_len (offset_at items) 0 (moved_count items))
 
--- so they do in a detour
-detour-pairs : (bits : Bits) (ip : ℕ) (code : List ℕ) (to place : ℕ) (rule : MoveRule) (d : DetourState) → IsDetour bits ip code to place rule d
-    → length d.places ≡ length d.starts
-detour-pairs bits ip code to place rule d is =
+-- so they do in a detour by rules
+detour-pairs : (bits : Bits) (ip : ℕ) (code : List ℕ) (to place : ℕ) (rules : HookRules) (d : DetourState)
+    → IsDetour bits ip code to place (move_rule rules) d → length d.places ≡ length d.starts
+detour-pairs bits ip code to place rules d is =
     ap length is.places ∙ (same-length is.items place is.moved ∙ sym (ap length is.starts))
 
 -- **there are as many places as starts**
@@ -38,4 +37,4 @@ moved-pairs bits rules ip code to place entries (Err e) h = tt
 moved-pairs None rules ip code to place entries (Ok seen) h = absurd cc
 moved-pairs (Some bits) None ip code to place entries (Ok seen) h = absurd cc
 moved-pairs (Some bits) (Some rules) ip code to place entries (Ok seen) (few, is) =
-    detour-pairs bits ip code (modulo_width bits to) place (move_rule rules) seen.detour is.0
+    detour-pairs bits ip code (modulo_width bits to) place rules seen.detour is.0

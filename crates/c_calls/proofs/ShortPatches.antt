@@ -10,7 +10,6 @@ use Rattle.move_goals.specs.declared.items.Placed.{Placed}
 use Rattle.detour.specs.declared.parts.JumpForm.{JumpForm}
 use Rattle.detour.specs.declared.parts.JumpForm.TheVariants.{Near, Relay, Absolute}
 use Rattle.detour.specs.declared.start.StartTarget.{StartTarget}
-use Rattle.detour.specs.declared.start.MoveRule.{MoveRule}
 use Rattle.detour.specs.Detours.{IsJumpOf, IsDetour, DetourState, all_follow, patch_of}
 use Rattle.detour.specs.Jumps.{IsNearJump, near_jump_to, absolute_jump}
 use Rattle.detour.specs.Taken.{taken_bytes, offset_at, reading_of_item, AreReadFrom}
@@ -27,11 +26,11 @@ absolute-short : (target : ℕ) → length (absolute_jump target) ≤ 14
 unfolding absolute_jump
 absolute-short target = omega (arith, address-length target)
 
-jump-short : (facts : JumpFacts) (bits : Bits) (ip : ℕ) (code : List ℕ) (to place : ℕ) (rule : MoveRule) (form : JumpForm) (bytes : List ℕ) (relay : Option ℕ)
-    → IsJumpOf bits ip code to place rule form bytes relay → length bytes ≤ 14
-jump-short facts bits ip code to place rule Near bytes relay (near, none) = near-short facts bits ip to bytes near
-jump-short facts bits ip code to place rule Relay bytes relay (far, (address, (at, (behind, near)))) = near-short facts bits ip address bytes near
-jump-short facts bits ip code to place rule Absolute bytes relay (far, (tried, (is, none))) = omega (arith, ap length is, absolute-short to)
+jump-short : (facts : JumpFacts) (bits : Bits) (ip : ℕ) (code : List ℕ) (to place : ℕ) (start : StartTarget) (form : JumpForm) (bytes : List ℕ) (relay : Option ℕ)
+    → IsJumpOf bits ip code to place (all_follow start) form bytes relay → length bytes ≤ 14
+jump-short facts bits ip code to place start Near bytes relay (near, none) = near-short facts bits ip to bytes near
+jump-short facts bits ip code to place start Relay bytes relay (far, (address, (at, (behind, near)))) = near-short facts bits ip address bytes near
+jump-short facts bits ip code to place start Absolute bytes relay (far, (tried, (is, none))) = omega (arith, ap length is, absolute-short to)
 
 -- ---- what is taken
 
@@ -61,10 +60,11 @@ patch_of-length jump taken =
     let n : length (replicate (taken - length jump) int3) ≡ taken - length jump = length-replicate (taken - length jump) int3 in
     omega (arith, length-append jump (replicate (taken - length jump) int3), n)
 
-patch-short : (facts : JumpFacts) (bits : Bits) (ip : ℕ) (code : List ℕ) (to place : ℕ) (rule : MoveRule) (d : DetourState) → IsDetour bits ip code to place rule d → length d.patch ≤ 28
-patch-short facts bits ip code to place rule d is =
+patch-short : (facts : JumpFacts) (bits : Bits) (ip : ℕ) (code : List ℕ) (to place : ℕ) (start : StartTarget) (d : DetourState)
+    → IsDetour bits ip code to place (all_follow start) d → length d.patch ≤ 28
+patch-short facts bits ip code to place start d is =
     let j = is.jump in
-    let jump = jump-short facts bits ip code to place rule j.form j.bytes j.relay is.first in
+    let jump = jump-short facts bits ip code to place start j.form j.bytes j.relay is.first in
     let taken = is.are_taken in
     let most : 0 + taken_bytes is.items ≤ length j.bytes + 14 =
     taken-short bits ip code (length j.bytes) 0 0 is.items taken.read (λ (k : ℕ) (lt : k < length is.items). omega (arith, taken.fewest k lt)) (omega arith) in
@@ -75,4 +75,4 @@ pub patches-short : (facts : JumpFacts) (bits : Option Bits) (start : Option Sta
     → IsDetourAnswerBy bits start ip code to place (Ok d) → length d.patch ≤ 28
 patches-short facts None start ip code to place d h = absurd cc
 patches-short facts (Some bits) None ip code to place d h = absurd cc
-patches-short facts (Some bits) (Some start) ip code to place d (few, is) = patch-short facts bits ip code (modulo_width bits to) place (all_follow start) d is
+patches-short facts (Some bits) (Some start) ip code to place d (few, is) = patch-short facts bits ip code (modulo_width bits to) place start d is
