@@ -23,9 +23,10 @@ same-length items place m =
     length-map-range_with_len (place_at m.starts place) 0 (moved_count items)
     ∙ sym (length-map-range_with_len (offset_at items) 0 (moved_count items))
 
--- so they do in a detour by rules
+-- so they do in a detour
 detour-pairs : (bits : Bits) (ip : ℕ) (code : List ℕ) (to place : ℕ) (rules : HookRules) (d : DetourState)
-    → IsDetour bits ip code to place (move_rule rules) d → length d.places ≡ length d.starts
+    → IsDetour bits ip code to place (move_rule rules) d
+    → length d.places ≡ length d.starts
 detour-pairs bits ip code to place rules d is =
     ap length is.places ∙ (same-length is.items place is.moved ∙ sym (ap length is.starts))
 

@@ -60,8 +60,7 @@ patch_of-length jump taken =
     let n : length (replicate (taken - length jump) int3) ≡ taken - length jump = length-replicate (taken - length jump) int3 in
     omega (arith, length-append jump (replicate (taken - length jump) int3), n)
 
-patch-short : (facts : JumpFacts) (bits : Bits) (ip : ℕ) (code : List ℕ) (to place : ℕ) (start : StartTarget) (d : DetourState)
-    → IsDetour bits ip code to place (all_follow start) d → length d.patch ≤ 28
+patch-short : (facts : JumpFacts) (bits : Bits) (ip : ℕ) (code : List ℕ) (to place : ℕ) (start : StartTarget) (d : DetourState) → IsDetour bits ip code to place (all_follow start) d → length d.patch ≤ 28
 patch-short facts bits ip code to place start d is =
     let j = is.jump in
     let jump = jump-short facts bits ip code to place start j.form j.bytes j.relay is.first in
