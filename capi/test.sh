@@ -1,8 +1,9 @@
 #!/bin/sh
 # Builds the C library with both compilers of the kit and tests it: the header; the structs; every function with valid and invalid
 # arguments, with NULL, zeros and every buffer that is too small; the examples; the Python package; the GDB commands; the inspector;
-# stack walks; the hooking library, also with threads, C++ exceptions and 32-bit code; the crate for Rust; the listing of a real file against that of the program; clients of the files that install.sh
-# installs; and the packages of packaging/build.sh as far as no root is needed (packaging/test.sh installs them).
+# stack walks; the hooking library, also with threads, C++ exceptions and 32-bit code; the crate for Rust; the listing of a real file
+# against that of the program; clients of the files that install.sh installs; and the packages of packaging/build.sh as far as no
+# root is needed (packaging/test.sh installs them).
 #
 #   capi/test.sh [FILE]
 #
