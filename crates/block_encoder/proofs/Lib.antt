@@ -21,3 +21,4 @@ pub mod LastForms
 pub mod ReadThere
 pub mod Ready
 pub mod Aimed
+pub mod PushedCalls

@@ -9,3 +9,4 @@ pub mod Last
 pub mod Facts
 pub mod LawsBelow
 pub mod Going
+pub mod PushedCalls

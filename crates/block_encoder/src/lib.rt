@@ -13,6 +13,7 @@ mod laws_below;
 mod moved;
 mod ordered;
 mod outside;
+pub mod pushed_calls;
 mod write;
 
 pub use blocks::{move_block, move_blocks};

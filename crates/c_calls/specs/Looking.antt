@@ -2,16 +2,16 @@
 use Rattle.std.specs.Prelude.{◌≡◌, ℕ, ◌<◌, ◌≤◌, ◌==◌, ℤ, pos, List, length, Option, Some, None, Result, Ok, Err, if◌then◌else◌}
 use Rattle.x86_values.specs.declared.Bits.{Bits}
 use Rattle.flow_graph.specs.Control.{code_bytes}
-use Rattle.hook_sight.specs.declared.answers.Passage.{Passage}
-use Rattle.hook_sight.specs.declared.answers.Sight.{Sight}
-use Rattle.hook_sight.specs.declared.answers.Sight.TheVariants.{Whole, Ends}
-use Rattle.hook_sight.specs.declared.answers.SightEnd.{SightEnd}
-use Rattle.hook_sight.specs.declared.answers.SightEnd.TheVariants.{NotRead, IndirectJump, Ended}
-use Rattle.hook_sight.specs.declared.answers.StartRule.{StartRule}
-use Rattle.hook_sight.specs.declared.answers.StartRule.TheVariants.{Open, Closed}
-use Rattle.hook_sight.specs.declared.answers.View.{View}
-use Rattle.hook_sight.specs.Entries.{part_of}
-use Rattle.hook_sight.specs.Views.{IsView}
+use Rattle.flow_graph.specs.declared.hook_sight.answers.Passage.{Passage}
+use Rattle.flow_graph.specs.declared.hook_sight.answers.Sight.{Sight}
+use Rattle.flow_graph.specs.declared.hook_sight.answers.Sight.TheVariants.{Whole, Ends}
+use Rattle.flow_graph.specs.declared.hook_sight.answers.SightEnd.{SightEnd}
+use Rattle.flow_graph.specs.declared.hook_sight.answers.SightEnd.TheVariants.{NotRead, IndirectJump, Ended}
+use Rattle.flow_graph.specs.declared.hook_sight.answers.StartRule.{StartRule}
+use Rattle.flow_graph.specs.declared.hook_sight.answers.StartRule.TheVariants.{Open, Closed}
+use Rattle.flow_graph.specs.declared.hook_sight.answers.View.{View}
+use Rattle.flow_graph.specs.HookSight.Entries.{part_of}
+use Rattle.flow_graph.specs.HookSight.Views.{IsView}
 use Rattle.c_calls.specs.declared.refusal.Refusal.{Refusal}
 use Rattle.c_calls.specs.declared.refusal.Refusal.TheVariants.{Mode, Start, TooLarge, Memory}
 use Rattle.c_calls.specs.declared.flat.FlatView.{FlatView}

@@ -8,7 +8,7 @@ use crate::flat::FlatView;
 use crate::numbers::bits_numbered;
 use crate::refusal::{Refusal, refusal_status};
 use flow_graph::FlowError;
-use hook_sight::{Passage, Sight, SightEnd, StartRule, View};
+use flow_graph::hook_sight::{Passage, Sight, SightEnd, StartRule, View};
 use std::alloc::Global;
 
 /// How many bytes a function has at most.
@@ -147,7 +147,16 @@ fn view_of(
     if code.len() > MOST {
         return Err(Refusal::TooLarge);
     }
-    match hook_sight::look(alloc, bits, ip, code, entries, taken as usize, moved, start) {
+    match flow_graph::hook_sight::look(
+        alloc,
+        bits,
+        ip,
+        code,
+        entries,
+        taken as usize,
+        moved,
+        start,
+    ) {
         Ok(view) => Ok(view),
         Err(FlowError::Memory) => Err(Refusal::Memory),
     }

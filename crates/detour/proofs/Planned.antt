@@ -16,9 +16,9 @@ use Rattle.move_goals.specs.declared.items.Placed.{Placed}
 use Rattle.move_goals.specs.Items.{IsPlaced, ArePlaced, item_at, first_below, one_span}
 use Rattle.move_goals.specs.Goals.{begins_at}
 use Rattle.move_goals.specs.Plan.{branch_with, plan_with}
-use Rattle.pushed_calls.specs.declared.items.PushedCall.{PushedCall}
-use Rattle.pushed_calls.specs.Jumps.{jump_of}
-use Rattle.pushed_calls.specs.Items.{return_address, jump_item, with_jump, with_jump_if, pushed_items, items_in, items_if}
+use Rattle.block_encoder.specs.declared.pushed_calls.items.PushedCall.{PushedCall}
+use Rattle.block_encoder.specs.PushedCalls.Jumps.{jump_of}
+use Rattle.block_encoder.specs.PushedCalls.Items.{return_address, jump_item, with_jump, with_jump_if, pushed_items, items_in, items_if}
 use Rattle.detour.specs.LawsBelow.{DetourLawsBelow}
 use Rattle.detour.specs.declared.start.StartTarget.{StartTarget}
 use Rattle.detour.specs.declared.start.StartTarget.TheVariants.{Moved, Hooked}

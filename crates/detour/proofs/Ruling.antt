@@ -4,10 +4,10 @@ use Rattle.std.specs.Prelude.{IsTrue}
 use Rattle.std.specs.Option.{option_or}
 use Rattle.std.proofs.lemmas.Bool.{false≢true}
 use Rattle.x86_values.specs.declared.Bits.{Bits}
-use Rattle.hook_sight.specs.declared.answers.Passage.{Passage}
-use Rattle.hook_sight.specs.declared.answers.Sight.{Sight}
-use Rattle.hook_sight.specs.declared.answers.Sight.TheVariants.{Whole, Ends}
-use Rattle.hook_sight.specs.declared.answers.View.{View}
+use Rattle.flow_graph.specs.declared.hook_sight.answers.Passage.{Passage}
+use Rattle.flow_graph.specs.declared.hook_sight.answers.Sight.{Sight}
+use Rattle.flow_graph.specs.declared.hook_sight.answers.Sight.TheVariants.{Whole, Ends}
+use Rattle.flow_graph.specs.declared.hook_sight.answers.View.{View}
 use Rattle.detour.specs.declared.error.DetourError.{DetourError}
 use Rattle.detour.specs.declared.rules.RuleError.{RuleError}
 use Rattle.detour.specs.declared.rules.RuleError.TheVariants.{Detour, Overlaps, Calls, Entered, Unseen}

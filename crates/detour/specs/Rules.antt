@@ -5,14 +5,14 @@ use Rattle.x86_values.specs.declared.Bits.{Bits}
 use Rattle.x86_values.specs.Wrapping.{modulo_width}
 use Rattle.plain_spelling.specs.Values.{distance}
 use Rattle.flow_graph.specs.Control.{code_bytes}
-use Rattle.hook_sight.specs.declared.answers.Passage.{Passage}
-use Rattle.hook_sight.specs.declared.answers.Sight.{Sight}
-use Rattle.hook_sight.specs.declared.answers.Sight.TheVariants.{Whole, Ends}
-use Rattle.hook_sight.specs.declared.answers.StartRule.{StartRule}
-use Rattle.hook_sight.specs.declared.answers.StartRule.TheVariants.{Open, Closed}
-use Rattle.hook_sight.specs.declared.answers.View.{View}
-use Rattle.hook_sight.specs.Entries.{part_of}
-use Rattle.hook_sight.specs.Views.{IsView}
+use Rattle.flow_graph.specs.declared.hook_sight.answers.Passage.{Passage}
+use Rattle.flow_graph.specs.declared.hook_sight.answers.Sight.{Sight}
+use Rattle.flow_graph.specs.declared.hook_sight.answers.Sight.TheVariants.{Whole, Ends}
+use Rattle.flow_graph.specs.declared.hook_sight.answers.StartRule.{StartRule}
+use Rattle.flow_graph.specs.declared.hook_sight.answers.StartRule.TheVariants.{Open, Closed}
+use Rattle.flow_graph.specs.declared.hook_sight.answers.View.{View}
+use Rattle.flow_graph.specs.HookSight.Entries.{part_of}
+use Rattle.flow_graph.specs.HookSight.Views.{IsView}
 use Rattle.detour.specs.declared.error.DetourError.{DetourError}
 use Rattle.detour.specs.declared.error.DetourError.TheVariants as detour_error
 use Rattle.detour.specs.declared.rules.RuleError.{RuleError}

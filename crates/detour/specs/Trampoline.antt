@@ -14,7 +14,7 @@ use Rattle.move_goals.specs.Goals.{begins_at}
 use Rattle.move_goals.specs.Plan.{plan_with, kept_goal}
 use Rattle.block_encoder.specs.Moved.{MovedLists}
 use Rattle.block_encoder.specs.ByPlan.{IsMovedBy}
-use Rattle.pushed_calls.specs.Items.{pushed_items}
+use Rattle.block_encoder.specs.PushedCalls.Items.{pushed_items}
 use Rattle.detour.specs.declared.start.StartTarget.{StartTarget}
 use Rattle.detour.specs.declared.start.StartTarget.TheVariants.{Moved, Hooked}
 use Rattle.detour.specs.declared.start.MoveRule.{MoveRule}

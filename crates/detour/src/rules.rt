@@ -10,7 +10,7 @@ use crate::making::detour_under;
 use crate::parts::Detour;
 use crate::start::{MoveRule, StartTarget};
 use flow_graph::FlowError;
-use hook_sight::{Passage, Sight, SightEnd, StartRule, View, look};
+use flow_graph::hook_sight::{Passage, Sight, SightEnd, StartRule, View, look};
 use plain_spelling::numbers::distance;
 use std::alloc::Global;
 use thiserror::Error;
@@ -221,9 +221,9 @@ fn ruled(
 /// that of the trampoline. The jump, what it overwrites and the trampoline are those of [`detour`](crate::detour), with two differences. An address at
 /// RIP or EIP stays the same even if it lies in the overwritten bytes: it may be the base of data, or be compared with a return address. If
 /// `rules.returns` asks for it, a near CALL that is the last moved instruction pushes its own return address and jumps, if it can
-/// ([`pushed_call`](pushed_calls::pushed_call) says when); then nothing jumps back.
+/// ([`pushed_call`](block_encoder::pushed_calls::pushed_call) says when); then nothing jumps back.
 ///
-/// Control is followed from the first byte and from `entries`: further offsets at which the function begins, as for [`look`](hook_sight::look), such as
+/// Control is followed from the first byte and from `entries`: further offsets at which the function begins, as for [`look`](flow_graph::hook_sight::look), such as
 /// targets of jump tables, landing pads, parts that a compiler moved away. Without `rules.whole`, the view says where sight ends, and the first suspect.
 /// If targets at the start are moved (`StartTarget::Moved`), a loop from behind the overwritten bytes to the start is an entry as well: it would run
 /// into the patch. Calls of the start are recursion, and reach the replacement.

@@ -7,7 +7,7 @@ ghost use Rattle.move_goals.specs.Plan.{branch_with};
 ghost use Rattle.move_goals.specs.Plan as plan;
 ghost use Rattle.block_encoder.specs.ByPlan.{IsPlanAnswer};
 ghost use Rattle.block_encoder.specs.Planned.{as_moving};
-ghost use Rattle.pushed_calls.specs.Items.{items_if, items_in};
+ghost use Rattle.block_encoder.specs.PushedCalls.Items.{items_if, items_in};
 ghost use Rattle.detour.specs.Reading.{IsTakenFit};
 ghost use Rattle.detour.specs.Trampoline as spec;
 
@@ -15,13 +15,13 @@ use crate::jumps::jump_back;
 use crate::laws_below::laws_below;
 use crate::start::{MoveRule, StartTarget};
 use crate::taken::{Taken, first_end, moved_count};
+use block_encoder::pushed_calls::{PushedCall, pushed_call};
 use block_encoder::{MovedBlocks, PlanError, move_planned};
 use branch_sizes::{Branch, Goal, Plan};
 use move_goals::Placed;
 use move_goals::branch_forms::choices_of;
 use move_goals::moved_targets::target_of;
 use operand_info::near_target;
-use pushed_calls::{PushedCall, pushed_call};
 use std::alloc::{AllocError, Global};
 use x86_values::{Bits, Instr, wrap};
 

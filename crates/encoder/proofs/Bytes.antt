@@ -18,13 +18,13 @@ use Rattle.plain_spelling.specs.Parts.{ArePartsOf}
 use Rattle.plain_spelling.specs.Writable.{writable}
 use Rattle.plain_spelling.proofs.Failures.{tail-suits}
 use Rattle.plain_spelling.proofs.ImmediateRoom.{number-below}
-use Rattle.plain_form.proofs.PartLengths.{modrm_count, sib_count}
+use Rattle.row_relation.proofs.PartLengths.{modrm_count, sib_count}
 use Rattle.plain_spelling.proofs.FrontRange.{byte_front-plain, plain_front-range}
-use Rattle.plain_form.specs.Given.{Given}
-use Rattle.plain_form.proofs.FitPlaces.{modrm_fits}
-use Rattle.plain_form.proofs.FitAddressLengths.{tail_fits}
-use Rattle.plain_form.proofs.FitLengths.{used_is, plain_long}
-use Rattle.plain_form.proofs.PlainLaws.Exact.{writable_row}
+use Rattle.row_relation.specs.Given.{Given}
+use Rattle.row_relation.proofs.FitPlaces.{modrm_fits}
+use Rattle.row_relation.proofs.FitAddressLengths.{tail_fits}
+use Rattle.row_relation.proofs.FitLengths.{used_is, plain_long}
+use Rattle.row_relation.proofs.PlainLaws.Exact.{writable_row}
 use Rattle.row_relation.specs.PlainBytes.{plain_tail_bytes, tail_count}
 use Rattle.prefixes.specs.Written.{front_written}
 use Rattle.modrm_sib.proofs.WrittenTail.{bytes-parted}

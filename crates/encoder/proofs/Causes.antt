@@ -13,9 +13,9 @@ use Rattle.plain_spelling.specs.declared.NoSpelling.{NoSpelling}
 use Rattle.plain_spelling.specs.declared.NoSpelling.TheVariants as cause
 use Rattle.plain_spelling.specs.PlainTail.{plain_spelling, plain_len}
 use Rattle.plain_spelling.specs.Expressible.{failure, failure_of, first_failed_condition}
-use Rattle.plain_form.specs.PlainLaws.Plain.{IsPlainlySpelled}
-use Rattle.plain_form.proofs.PlainLaws.Exact.{plain_from}
-use Rattle.plain_form.proofs.PlainLaws.ReadBack.{plain_reads}
+use Rattle.row_relation.specs.PlainLaws.Plain.{IsPlainlySpelled}
+use Rattle.row_relation.proofs.PlainLaws.Exact.{plain_from}
+use Rattle.row_relation.proofs.PlainLaws.ReadBack.{plain_reads}
 use Rattle.opcode_rows.specs.Table.{table}
 use Rattle.encoder.specs.Encoding.{encoding, encoded_by, plain_bytes, answer_bytes}
 use Rattle.encoder.proofs.OverTable.{written_table, none_fails, shortest}

@@ -8,7 +8,7 @@ use Rattle.row_fit.specs.Fits.{reads_by, is_gather, is_vvvv}
 use Rattle.row_fit.specs.Sound.{reads_reg}
 use Rattle.std.specs.List.{list_all}
 use Rattle.plain_spelling.specs.Writable.{writable, Writable, gather_is_whole, names_vectors}
-use Rattle.plain_form.proofs.PlainLaws.Exact.{writable_row}
+use Rattle.row_relation.proofs.PlainLaws.Exact.{writable_row}
 
 first-false : (a b c : Bool) → (not a || (b && c)) ≡ true → b ≡ false → false ≡ a
 first-false false b c h e = refl

@@ -7,9 +7,9 @@ use Rattle.instruction_parts.specs.Bytes.{bytes_of}
 use Rattle.row_relation.specs.Spells.{Spells, SpellsUnbounded}
 use Rattle.plain_spelling.specs.PlainTail.{plain_spelling}
 use Rattle.plain_spelling.specs.Expressible.{failure_of}
-use Rattle.plain_form.specs.PlainLaws.Plain.{IsPlainlySpelled, IsWritable, has_target}
-use Rattle.plain_form.proofs.PlainLaws.Exact.{plain_from, holds_of_plain, plain_is_least, plain_is_one, plain_of_spelled}
-use Rattle.plain_form.proofs.PlainLaws.ReadBack.{plain_spells}
+use Rattle.row_relation.specs.PlainLaws.Plain.{IsPlainlySpelled, IsWritable, has_target}
+use Rattle.row_relation.proofs.PlainLaws.Exact.{plain_from, holds_of_plain, plain_is_least, plain_is_one, plain_of_spelled}
+use Rattle.row_relation.proofs.PlainLaws.ReadBack.{plain_spells}
 use Rattle.opcode_rows.specs.Table.{table}
 use Rattle.opcode_rows.proofs.Sound.{sound-row}
 use Rattle.opcode_rows.proofs.Writable.{writable-row}

@@ -13,10 +13,10 @@ use Rattle.plain_spelling.specs.declared.NoSpelling.{NoSpelling}
 use Rattle.plain_spelling.specs.PlainTail.{plain_spelling, plain_len}
 use Rattle.plain_spelling.specs.Expressible.{Suits, failure_of}
 use Rattle.plain_spelling.proofs.Failures.{failure-suits}
-use Rattle.plain_form.proofs.FitLengths.{plain_long}
-use Rattle.plain_form.specs.GivenSpelling.{Given}
-use Rattle.plain_form.proofs.NeedWhole.{NeedsHold, needs_hold}
-use Rattle.plain_form.proofs.PlainLaws.Exact.{writable_row}
+use Rattle.row_relation.proofs.FitLengths.{plain_long}
+use Rattle.row_relation.specs.GivenSpelling.{Given}
+use Rattle.row_relation.proofs.NeedWhole.{NeedsHold, needs_hold}
+use Rattle.row_relation.proofs.PlainLaws.Exact.{writable_row}
 use Rattle.opcode_rows.specs.Table.{table}
 use Rattle.encoder.specs.Encoding.{encoding, encoded_by, plain_bytes}
 use Rattle.encoder.specs.Facts.{SuitsElsewhere}

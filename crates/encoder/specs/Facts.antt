@@ -9,7 +9,7 @@ use Rattle.instruction_parts.specs.Bytes.{bytes_of}
 use Rattle.row_relation.specs.Spells.{Spells, IsSpelledBy, ReadsAs}
 use Rattle.plain_spelling.specs.PlainTail.{plain_spelling, plain_len}
 use Rattle.plain_spelling.specs.Expressible.{Suits, each_operand, row_exists, kind_suits, register_suits, address_suits, displacement_offered, immediate_suits, prefixes_suit, address_size_suits}
-use Rattle.plain_form.specs.PlainLaws.Plain.{IsPlainlySpelled}
+use Rattle.row_relation.specs.PlainLaws.Plain.{IsPlainlySpelled}
 use Rattle.opcode_rows.specs.Table.{table}
 use Rattle.encoder.specs.Encoding.{encoding}
 

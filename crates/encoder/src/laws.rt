@@ -5,7 +5,7 @@ ghost use Rattle.x86_values.specs.declared.Bits.{Bits};
 ghost use Rattle.x86_values.specs.declared.Instr.{Instr};
 ghost use Rattle.row_relation.specs.Spells.{Spells, SpellsUnbounded};
 ghost use Rattle.plain_spelling.specs.Expressible.{failure_of};
-ghost use Rattle.plain_form.specs.PlainLaws.Plain.{IsPlainlySpelled, has_target};
+ghost use Rattle.row_relation.specs.PlainLaws.Plain.{IsPlainlySpelled, has_target};
 ghost use Rattle.opcode_rows.specs.Table.{table};
 ghost use Rattle.encoder.specs.Facts.{EncodingFacts, SpelledFacts};
 

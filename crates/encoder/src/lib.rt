@@ -12,7 +12,7 @@ ghost use Rattle.plain_spelling.specs.PlainTail.{plain_spelling};
 ghost use Rattle.plain_spelling.specs.Expressible.{failure, is_pair as spec_pair};
 ghost use Rattle.plain_spelling.specs.Parts.{ArePartsOf};
 ghost use Rattle.plain_spelling.specs.Writable.{writable};
-ghost use Rattle.plain_form.specs.PlainLaws.Plain.{IsPlainlySpelled};
+ghost use Rattle.row_relation.specs.PlainLaws.Plain.{IsPlainlySpelled};
 ghost use Rattle.opcode_rows.specs.Table.{table};
 ghost use Rattle.opcode_rows.specs.Reading.{IsRead};
 ghost use Rattle.encoder.specs.Encoding.{encoding, encoded_by, answer_bytes, written_onto, length_of, reading_of_bytes};

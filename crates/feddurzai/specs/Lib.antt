@@ -21,7 +21,7 @@ pub use Rattle.code_items.specs.Items as CodeItems
 pub use Rattle.code_items.specs.Iteration
 -- writing and texts
 pub use Rattle.encoder.specs.Encoding
-pub use Rattle.plain_form.specs.PlainLaws.Plain
+pub use Rattle.row_relation.specs.PlainLaws.Plain
 pub use Rattle.intel_reader.specs.Assembled
 pub use Rattle.intel_text.specs.Text as IntelText
 pub use Rattle.att_text.specs.Text as AttText
@@ -59,11 +59,11 @@ pub use Rattle.step_slots.specs.Done as DoneSteps
 pub use Rattle.step_slots.specs.UnlistedStep as UnlistedSteps
 pub use Rattle.step_slots.specs.Block as StepBlocks
 pub use Rattle.step_slots.specs.Calling as CallSteps
-pub use Rattle.pushed_calls.specs.Items as PushedItems
-pub use Rattle.pushed_calls.specs.Pushes
-pub use Rattle.pushed_calls.specs.Jumps as PushedJumps
-pub use Rattle.pushed_calls.specs.Slots as PushedSlots
-pub use Rattle.pushed_calls.specs.Facts as PushedFacts
+pub use Rattle.block_encoder.specs.PushedCalls.Items as PushedItems
+pub use Rattle.block_encoder.specs.PushedCalls.Pushes
+pub use Rattle.block_encoder.specs.PushedCalls.Jumps as PushedJumps
+pub use Rattle.block_encoder.specs.PushedCalls.Slots as PushedSlots
+pub use Rattle.block_encoder.specs.PushedCalls.Facts as PushedFacts
 pub use Rattle.step_slots.specs.Facts as SlotFacts
 pub mod Stepping
 -- flow
@@ -84,11 +84,11 @@ pub use Rattle.detour.specs.HookSlots.Removing as HookRemovals
 pub use Rattle.detour.specs.HookSlots.Holding as HookHolding
 pub use Rattle.detour.specs.HookSlots.Running as HookCommands
 pub use Rattle.detour.specs.HookSlots.Facts as HookFacts
-pub use Rattle.hook_sight.specs.Sight as HookSight
-pub use Rattle.hook_sight.specs.Entries as HookEntries
-pub use Rattle.hook_sight.specs.Suspects as HookSuspects
-pub use Rattle.hook_sight.specs.Views as HookViews
-pub use Rattle.hook_sight.specs.Keeping as HookKeeping
+pub use Rattle.flow_graph.specs.HookSight.Sight as HookSight
+pub use Rattle.flow_graph.specs.HookSight.Entries as HookEntries
+pub use Rattle.flow_graph.specs.HookSight.Suspects as HookSuspects
+pub use Rattle.flow_graph.specs.HookSight.Views as HookViews
+pub use Rattle.flow_graph.specs.HookSight.Keeping as HookKeeping
 -- streams
 pub use Rattle.byte_ports.specs.Ports
 pub use Rattle.sweep.specs.Streams

@@ -128,7 +128,7 @@ pub mod region {
 /// block of an instruction that the opcode table leaves out.
 pub mod slots {
     pub use crate::stepping::{StepCodeError, step_code};
-    pub use pushed_calls::{PushedCall, laws as pushed_laws, pushed_call};
+    pub use block_encoder::pushed_calls::{PushedCall, laws as pushed_laws, pushed_call};
     pub use step_slots::{
         CallError, StandError, StepCommand, StepError, StepReply, StepSlot, StepSlots,
         UnlistedStep, UnlistedStepError, done_len, laws, pushed_len, replay, step_at, step_call_at,
@@ -173,5 +173,7 @@ pub mod hooks {
         Detour, DetourError, HookRules, JumpForm, Parts, RuleError, SeenDetour, StartTarget,
         detour, detour_with,
     };
-    pub use hook_sight::{Passage, Sight, SightEnd, StartRule, View, laws as sight_laws, look};
+    pub use flow_graph::hook_sight::{
+        Passage, Sight, SightEnd, StartRule, View, laws as sight_laws, look,
+    };
 }

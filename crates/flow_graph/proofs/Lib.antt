@@ -8,3 +8,4 @@ pub mod Telling
 pub mod Listing
 pub mod Unique
 pub mod OneEntry
+pub mod HookSight

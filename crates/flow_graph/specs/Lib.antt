@@ -6,3 +6,4 @@ pub mod Marks
 pub mod Walks
 pub mod Told
 pub mod Graphs
+pub mod HookSight

@@ -4,6 +4,7 @@
 mod blocks;
 mod exits;
 mod graph;
+pub mod hook_sight;
 pub mod laws;
 mod walk;
 

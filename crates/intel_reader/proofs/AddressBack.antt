@@ -12,7 +12,7 @@ use Rattle.x86_values.specs.declared.DispSize.TheVariants.{D0, D8, D16, D32, D64
 use Rattle.x86_values.specs.declared.Mem.{Mem}
 use Rattle.x86_values.specs.Wrapping.{width}
 use Rattle.plain_spelling.specs.Values.{is_extended_of}
-use Rattle.plain_form.proofs.AddressCases as same
+use Rattle.row_relation.proofs.AddressCases as same
 use Rattle.text_parts.specs.Addresses.{is_instruction_pointer, is_relative, is_absolute, is_negative, magnitude}
 use Rattle.intel_words.specs.declared.words.Inside.{Inside}
 use Rattle.intel_words.specs.declared.words.Inside.TheVariants.{Nothing, Lone}

@@ -22,10 +22,10 @@ use Rattle.plain_spelling.specs.Addresses.{form_of, rm_of_short, has_address_siz
 use Rattle.plain_spelling.specs.Forms.{is_scale}
 use Rattle.plain_spelling.specs.Expressible.{size_agrees}
 use Rattle.x86_values.proofs.Compared.{same_bits-is}
-use Rattle.plain_form.proofs.AddressCases.{impossible, form-alone-index, form-short, agrees, written_is}
-use Rattle.plain_form.proofs.AddressForms.{shape_is, value_at}
-use Rattle.plain_form.proofs.FitAddressShapes.{shape_shown}
-use Rattle.plain_form.proofs.FitAddressGathers.{gather_is_wide, gather_shown, absolute_shown, absolute_is_alone}
+use Rattle.row_relation.proofs.AddressCases.{impossible, form-alone-index, form-short, agrees, written_is}
+use Rattle.row_relation.proofs.AddressForms.{shape_is, value_at}
+use Rattle.row_relation.proofs.FitAddressShapes.{shape_shown}
+use Rattle.row_relation.proofs.FitAddressGathers.{gather_is_wide, gather_shown, absolute_shown, absolute_is_alone}
 use Rattle.text_parts.specs.Addresses.{is_instruction_pointer, is_relative}
 use Rattle.intel_reader.proofs.AddressBack.{of_no_bytes, of_width, DisplacementIs, AddressIs}
 

@@ -23,7 +23,7 @@ use Rattle.plain_spelling.specs.Forms.{operand_at}
 use Rattle.plain_spelling.specs.Addresses.{has_address_size, displacement_suits, shown_size, written_size}
 use Rattle.plain_spelling.specs.Expressible.{displacement_offered, told_size, size_agrees, has_memory_operand, is_size_of, address_size_suits}
 use Rattle.plain_spelling.proofs.Asked.{each-at}
-use Rattle.plain_form.specs.Given.{Given}
+use Rattle.row_relation.specs.Given.{Given}
 use Rattle.intel_words.specs.declared.words.IntelWords.{IntelWords}
 use Rattle.intel_words.specs.declared.words.OperandText.{OperandText}
 use Rattle.intel_words.specs.declared.words.OperandText.TheVariants.{Absent, Reg, Number, Far, Mem as Address}

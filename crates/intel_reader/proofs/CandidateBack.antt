@@ -19,9 +19,9 @@ use Rattle.plain_spelling.specs.Addresses.{displacement_suits, written_size}
 use Rattle.plain_spelling.specs.PlainTail.{plain_size}
 use Rattle.plain_spelling.specs.Expressible.{kind_suits, immediate_suits, immediate_suits_how}
 use Rattle.plain_spelling.proofs.Asked.{each-at}
-use Rattle.plain_form.specs.Given.{Given}
-use Rattle.plain_form.proofs.FitPlaces.{reads-at}
-use Rattle.plain_form.proofs.FitAddresses.{memory_at}
+use Rattle.row_relation.specs.Given.{Given}
+use Rattle.row_relation.proofs.FitPlaces.{reads-at}
+use Rattle.row_relation.proofs.FitAddresses.{memory_at}
 use Rattle.x86_values.specs.Operands.{is_memory}
 use Rattle.text_parts.specs.PrefixWords.{text_address_size}
 use Rattle.intel_words.specs.Words.{segment_of, inside_of, operand_of, nth_of, words_of}

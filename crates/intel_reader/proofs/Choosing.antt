@@ -9,7 +9,7 @@ use Rattle.x86_values.specs.declared.Code.{Code}
 use Rattle.x86_values.specs.declared.Instr.{Instr}
 use Rattle.x86_values.specs.Wrapping.{modulo_width}
 use Rattle.instruction_parts.specs.declared.row_types.Row.{Row}
-use Rattle.plain_form.specs.PlainLaws.Plain.{IsPlainlySpelled}
+use Rattle.row_relation.specs.PlainLaws.Plain.{IsPlainlySpelled}
 use Rattle.opcode_rows.specs.declared.generated_spots.TheConstants.{ROWS}
 use Rattle.opcode_rows.specs.Table.{table, name_of}
 use Rattle.opcode_rows.specs.Allowed.{is_well_formed}
@@ -24,7 +24,7 @@ use Rattle.intel_text.specs.Text.{text as intel_text, text_of}
 use Rattle.intel_words.specs.declared.words.IntelWords.{IntelWords}
 use Rattle.intel_words.specs.Words.{words_of}
 use Rattle.intel_words.specs.Printable.{is_printable}
-use Rattle.plain_form.proofs.AddressCases.{impossible}
+use Rattle.row_relation.proofs.AddressCases.{impossible}
 use Rattle.intel_reader.specs.declared.choice.Found.{Found}
 use Rattle.intel_reader.specs.Assembled.{Assembly, IsCandidate, IsFirst, IsNoText}
 use Rattle.intel_reader.specs.Choice.{assembly_of, LeadsChoice, IsHeld, IsProgress}

@@ -32,10 +32,10 @@ use Rattle.plain_spelling.specs.Forms.{is_variant_of, operand_at}
 use Rattle.plain_spelling.specs.PlainFront.{asks_rex_w, asked_rex, asked_vex, asked_used, plain_front_of}
 use Rattle.plain_spelling.specs.PlainTail.{byte_count, plain_modrm, operand_displacement, address_operand, plain_len, plain_spelling}
 use Rattle.plain_spelling.proofs.Asked.{address_operand-at, reads_address}
-use Rattle.plain_form.specs.Given.{Given}
-use Rattle.plain_form.proofs.FitLengths.{plain_long}
-use Rattle.plain_form.specs.PlainLaws.Plain.{IsPlainlySpelled}
-use Rattle.plain_form.proofs.PlainLaws.Exact.{plain_from}
+use Rattle.row_relation.specs.Given.{Given}
+use Rattle.row_relation.proofs.FitLengths.{plain_long}
+use Rattle.row_relation.specs.PlainLaws.Plain.{IsPlainlySpelled}
+use Rattle.row_relation.proofs.PlainLaws.Exact.{plain_from}
 use Rattle.opcode_rows.specs.Table.{table}
 use Rattle.encoder.proofs.OverTable.{written_table, none_fails, only_one}
 use Rattle.intel_words.specs.declared.words.IntelWords.{IntelWords}

@@ -16,7 +16,7 @@ use Rattle.instruction_parts.specs.Kinds.{method_of, immediate_width}
 use Rattle.row_fit.specs.Fits.{immediate_bytes}
 use Rattle.plain_spelling.specs.Forms.{is_allowed_in, is_variant_of}
 use Rattle.plain_spelling.specs.Expressible.{immediate_suits_how, near_reaches}
-use Rattle.plain_form.proofs.AddressCases.{impossible}
+use Rattle.row_relation.proofs.AddressCases.{impossible}
 use Rattle.intel_reader.specs.Operands.{is_near}
 use Rattle.intel_reader.proofs.AddressBack.{of_width}
 

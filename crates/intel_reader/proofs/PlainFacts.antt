@@ -20,9 +20,9 @@ use Rattle.opcode_rows.proofs.Formed.{well_formed-at}
 use Rattle.opcode_rows.proofs.Sound.{sound-row}
 use Rattle.plain_spelling.specs.Forms.{operand_at}
 use Rattle.plain_spelling.proofs.Failures.{failure-suits}
-use Rattle.plain_form.specs.Given.{Given}
-use Rattle.plain_form.specs.PlainLaws.Plain.{IsPlainlySpelled}
-use Rattle.plain_form.proofs.PlainLaws.Exact.{given_fit}
+use Rattle.row_relation.specs.Given.{Given}
+use Rattle.row_relation.specs.PlainLaws.Plain.{IsPlainlySpelled}
+use Rattle.row_relation.proofs.PlainLaws.Exact.{given_fit}
 use Rattle.encoder.proofs.OverTable.{written_table, none_fails}
 use Rattle.decoder.proofs.Formed.{meaning_formed}
 use Rattle.text_parts.specs.Layout.{is_long, long_at, has_one_long}

@@ -28,8 +28,8 @@ use Rattle.plain_spelling.specs.Forms.{is_scale, is_allowed_in, is_variant_of, o
 use Rattle.plain_spelling.specs.PlainTail.{plain_size, plain_next}
 use Rattle.plain_spelling.specs.Expressible.{target_suits, near_reaches, address_reaches}
 use Rattle.plain_spelling.proofs.Asked.{each-at}
-use Rattle.plain_form.proofs.AddressCases.{impossible}
-use Rattle.plain_form.specs.Given.{Given}
+use Rattle.row_relation.proofs.AddressCases.{impossible}
+use Rattle.row_relation.specs.Given.{Given}
 use Rattle.row_fit.specs.Fits.{immediate_bytes}
 use Rattle.text_parts.specs.PrefixWords.{text_address_size}
 use Rattle.intel_words.specs.Scanning.{is_word_byte}

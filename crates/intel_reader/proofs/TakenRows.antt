@@ -33,13 +33,13 @@ use Rattle.plain_spelling.specs.Forms.{is_allowed_in, is_variant_of, operand_at}
 use Rattle.plain_spelling.specs.Expressible.{naming_number}
 use Rattle.plain_spelling.specs.PlainFront.{plain_front_of}
 use Rattle.plain_spelling.specs.PlainTail.{plain_size}
-use Rattle.plain_form.specs.Given.{Given}
-use Rattle.plain_form.proofs.FitRegisters.{says, register-at}
+use Rattle.row_relation.specs.Given.{Given}
+use Rattle.row_relation.proofs.FitRegisters.{says, register-at}
 use Rattle.intel_reader.specs.declared.operands.OperandClass.{OperandClass}
 use Rattle.intel_reader.specs.declared.operands.OperandClass.TheVariants as class
 use Rattle.intel_reader.specs.Operands.{class_of_register, sample, is_of_size, is_byte, is_xmm, is_other, names_operand, class_has_number, has_fixed, names_class, words_suit_register, is_near, admits, takes, asked_flags, number_of}
 use Rattle.intel_reader.specs.Buckets.{order}
-use Rattle.plain_form.proofs.AddressCases.{impossible}
+use Rattle.row_relation.proofs.AddressCases.{impossible}
 use Rattle.intel_words.specs.declared.words.IntelWords.{IntelWords}
 use Rattle.intel_words.specs.declared.words.OperandText.{OperandText}
 use Rattle.intel_words.specs.declared.words.OperandText.TheVariants.{Absent, Reg, Number, Far, Mem as Address}

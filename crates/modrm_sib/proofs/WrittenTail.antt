@@ -10,8 +10,8 @@ use Rattle.plain_spelling.specs.PlainFront.{plain_front_of}
 use Rattle.plain_spelling.specs.PlainTail.{plain_spelling, plain_tail}
 use Rattle.plain_spelling.specs.Expressible.{Suits}
 use Rattle.plain_spelling.specs.Writable.{Writable}
-use Rattle.plain_form.specs.Given.{Given}
-use Rattle.plain_form.proofs.FitWhole.{plain_fits, plain_means}
+use Rattle.row_relation.specs.Given.{Given}
+use Rattle.row_relation.proofs.FitWhole.{plain_fits, plain_means}
 use Rattle.prefixes.specs.Written.{front_written}
 
 -- the bytes before the opcode byte and behind it

@@ -12,9 +12,9 @@ use Rattle.row_fit.specs.Sound.{Sound}
 use Rattle.plain_spelling.specs.PlainFront.{plain_front_of}
 use Rattle.plain_spelling.specs.Expressible.{Suits}
 use Rattle.plain_spelling.specs.Writable.{Writable}
-use Rattle.plain_form.specs.Given.{Given}
-use Rattle.plain_form.proofs.FitNumbers.{numbers_suit}
-use Rattle.plain_form.proofs.FitFront.{front_of_rest, front_is_short}
+use Rattle.row_relation.specs.Given.{Given}
+use Rattle.row_relation.proofs.FitNumbers.{numbers_suit}
+use Rattle.row_relation.proofs.FitFront.{front_of_rest, front_is_short}
 use Rattle.prefixes.specs.Written.{front_written, with_opcode}
 
 known_within : (given : ℕ) (f : PrefixState) → f.used < 15 → within_15 given (Known f) ≡ Known f

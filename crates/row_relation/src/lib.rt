@@ -3,6 +3,8 @@
 
 mod bytes;
 mod front;
+pub mod laws;
+pub mod plain_laws;
 
 pub use bytes::{append_lead, append_plain_tail, append_tail, spelling_bytes};
 pub use front::plain_front;

@@ -24,9 +24,9 @@ use Rattle.block_encoder.specs.Bytes.{block_bytes, bytes_of_blocks}
 use Rattle.block_encoder.specs.Moved.{MovedLists}
 use Rattle.block_encoder.specs.ByPlan.{IsMovedBy, IsOutsideAnswer}
 use Rattle.block_encoder.specs.Planned.{as_moving}
-use Rattle.pushed_calls.specs.Pushes.{push_of, high_half_of}
-use Rattle.pushed_calls.specs.Items.{item_of, with_jump, with_jump_if, return_address, jump_item, pushed_items}
-use Rattle.pushed_calls.specs.Jumps.{jump_of}
+use Rattle.block_encoder.specs.PushedCalls.Pushes.{push_of, high_half_of}
+use Rattle.block_encoder.specs.PushedCalls.Items.{item_of, with_jump, with_jump_if, return_address, jump_item, pushed_items}
+use Rattle.block_encoder.specs.PushedCalls.Jumps.{jump_of}
 use Rattle.step_slots.specs.Calling.{IsCallBlock, IsCallPass, IsCallTooFar, IsCallStood, BeginsWithPush, call_answer}
 use Rattle.step_slots.specs.CallsBelow.{CallLawsBelow}
 

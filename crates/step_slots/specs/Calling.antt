@@ -8,7 +8,7 @@ use Rattle.block_encoder.specs.declared.error.PlanError.{PlanError}
 use Rattle.block_encoder.specs.declared.error.PlanError.TheVariants as plan_error
 use Rattle.block_encoder.specs.Moved.{MovedLists}
 use Rattle.block_encoder.specs.ByPlan.{IsMovedBy, IsPassBy, IsTooFarBy}
-use Rattle.pushed_calls.specs.Items.{pushed_items}
+use Rattle.block_encoder.specs.PushedCalls.Items.{pushed_items}
 use Rattle.step_slots.specs.declared.calling.CallError.{CallError}
 use Rattle.step_slots.specs.declared.calling.CallError.TheVariants.{Memory, NotPushed, Wraps, TooFar}
 

@@ -4,7 +4,7 @@ use Rattle.branch_sizes.specs.MoveLayout.Facts.{EndFacts}
 use Rattle.move_goals.specs.BranchForms.Facts.{FormFacts}
 use Rattle.move_goals.specs.Facts.{PlanFacts}
 use Rattle.block_encoder.specs.Facts.{FragmentFacts, MovedFacts}
-use Rattle.pushed_calls.specs.Facts.{PushFacts}
+use Rattle.block_encoder.specs.PushedCalls.Facts.{PushFacts}
 
 -- lengths, ends, forms, plans, fragments, moved blocks, and the instructions that push
 pub record CallLawsBelow : Type 0 where

@@ -4,12 +4,12 @@ ghost use Rattle.std.specs.Prelude.{◌≡◌, ◌≤◌, length, IfOk};
 ghost use Rattle.move_goals.specs.Items.{ArePlaced};
 ghost use Rattle.block_encoder.specs.ByPlan.{IsOutsideAnswer};
 ghost use Rattle.block_encoder.specs.Planned.{as_moving};
-ghost use Rattle.pushed_calls.specs.Items.{items_in};
+ghost use Rattle.block_encoder.specs.PushedCalls.Items.{items_in};
 ghost use Rattle.step_slots.specs.Calling as spec;
 
 use crate::calls_below::calls_below;
+use block_encoder::pushed_calls::{PushedCall, pushed_call};
 use block_encoder::{Moved, Placed, PlanError, move_few_outside};
-use pushed_calls::{PushedCall, pushed_call};
 use std::alloc::Global;
 use thiserror::Error;
 use x86_values::Bits;

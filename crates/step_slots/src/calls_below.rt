@@ -13,5 +13,5 @@ pub(crate) fn calls_below()
     move_goals::laws::plans_are_well_formed();
     block_encoder::laws::plans_lay_out_their_items();
     block_encoder::laws::moved_blocks_keep_their_laws();
-    pushed_calls::laws::return_addresses_are_pushed();
+    block_encoder::pushed_calls::laws::return_addresses_are_pushed();
 }

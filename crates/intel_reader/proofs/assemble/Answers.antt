@@ -1,5 +1,5 @@
 use Rattle.std.proofs.Common.{sym}
-use Rattle.plain_form.proofs.AddressCases.{impossible}
+use Rattle.row_relation.proofs.AddressCases.{impossible}
 use Rattle.intel_reader.specs.Choice.{assembly_of}
 use Rattle.intel_reader.proofs.assemble.Goals as goal
 

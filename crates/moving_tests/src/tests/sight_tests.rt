@@ -1,7 +1,7 @@
 //! What is seen of functions whose first bytes a hook overwrites. The answers are worked out manually.
 
 use crate::tests::compare::same;
-use hook_sight::{Passage, Sight, SightEnd, StartRule, View, look};
+use flow_graph::hook_sight::{Passage, Sight, SightEnd, StartRule, View, look};
 use std::alloc::Global;
 use std::process::Abort;
 use std::test::Fail;

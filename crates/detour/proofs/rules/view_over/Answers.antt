@@ -1,9 +1,9 @@
 use Rattle.std.proofs.Common.{ℕ, List, subst}
 use Rattle.std.specs.Prelude.{IfOk}
 use Rattle.flow_graph.specs.Control.{code_bytes}
-use Rattle.hook_sight.specs.declared.answers.StartRule.{StartRule}
-use Rattle.hook_sight.specs.Entries.{part_of}
-use Rattle.hook_sight.specs.Views.{IsView}
+use Rattle.flow_graph.specs.declared.hook_sight.answers.StartRule.{StartRule}
+use Rattle.flow_graph.specs.HookSight.Entries.{part_of}
+use Rattle.flow_graph.specs.HookSight.Views.{IsView}
 use Rattle.detour.specs.Rules.{rule_of}
 use Rattle.detour.proofs.rules.view_over.Goals as goal
 

@@ -1,5 +1,5 @@
 use Rattle.std.proofs.Common.{sym}
-use Rattle.plain_form.proofs.PlainLaws.ReadBack.{plain_spells, plain_reads}
+use Rattle.row_relation.proofs.PlainLaws.ReadBack.{plain_spells, plain_reads}
 use Rattle.opcode_rows.specs.Table.{table}
 use Rattle.encoder.proofs.Causes.{plain_bytes_are}
 use Rattle.encoder.proofs.Suited.{suits-encoded}

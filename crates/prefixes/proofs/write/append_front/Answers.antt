@@ -1,5 +1,5 @@
 use Rattle.std.proofs.Common.{arith}
-use Rattle.plain_form.proofs.FitFront.{lead_short}
+use Rattle.row_relation.proofs.FitFront.{lead_short}
 use Rattle.prefixes.proofs.write.append_front.Goals as goal
 
 pub append_lead-requires-clause-room : goal.append_lead-requires-clause-room

@@ -1,7 +1,7 @@
 use Rattle.std.proofs.Common.{◌≤◌, Result, length, sym, subst}
 use Rattle.std.specs.Prelude.{IfOk}
 use Rattle.block_encoder.specs.Moved.{MovedLists}
-use Rattle.pushed_calls.specs.Items.{items_in}
+use Rattle.block_encoder.specs.PushedCalls.Items.{items_in}
 use Rattle.step_slots.specs.declared.calling.CallError.{CallError}
 use Rattle.step_slots.specs.Calling.{IsCallStood, BeginsWithPush}
 use Rattle.step_slots.proofs.Called.{call-stood, call-short, call-begins}

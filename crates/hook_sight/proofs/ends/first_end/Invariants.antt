@@ -1,7 +1,0 @@
-use Rattle.std.proofs.Common.{◌<◌, ℕ, get_or}
-use Rattle.flow_graph.specs.Control.{code_bytes}
-use Rattle.hook_sight.specs.Sight.{IsFollowed}
-use Rattle.hook_sight.proofs.ends.first_end.Given as goal
-
-abbrev pub invariant-places : goal.invariant-places
-invariant-places l = (j : ℕ) → j < l.k → IsFollowed (code_bytes l.bits l.ip l.code) (get_or l.starts j 0)

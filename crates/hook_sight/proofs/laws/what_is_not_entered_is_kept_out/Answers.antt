@@ -1,5 +1,0 @@
-use Rattle.hook_sight.proofs.Closing.{kept_out}
-use Rattle.hook_sight.proofs.laws.what_is_not_entered_is_kept_out.Goals as goal
-
-pub returns : goal.returns
-returns c = kept_out c.bytes_have_one_reading.ensures

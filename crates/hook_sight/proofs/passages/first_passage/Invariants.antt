@@ -1,9 +1,0 @@
-use Rattle.std.proofs.Common.{◌<◌, ℕ, get_or}
-use Rattle.flow_graph.specs.Control.{code_bytes}
-use Rattle.hook_sight.specs.Entries.{part_of}
-use Rattle.hook_sight.proofs.Entering.{NoneFrom}
-use Rattle.hook_sight.proofs.passages.first_passage.Given as goal
-
-abbrev pub invariant-places : goal.invariant-places
-invariant-places l =
-    (j : ℕ) → j < l.k → NoneFrom (code_bytes l.bits l.ip l.code) (part_of l.taken l.moved l.start) (get_or l.starts j 0)

@@ -1,6 +1,0 @@
-use Rattle.plain_form.proofs.Lengths.{four_of, given_from}
-use Rattle.plain_form.proofs.One.{one_plain}
-use Rattle.plain_form.proofs.laws.plain_spelling_is_constructed.Goals as goal
-
-pub returns : goal.returns
-returns c = λ bits ip row s i sound writable f p e. one_plain bits ip row s i (given_from bits ip row s i sound writable f e) (four_of bits ip row s i e) p

@@ -1,4 +1,0 @@
-pub mod IsPlain
-pub mod Given
-pub mod GivenSpelling
-pub mod PlainLaws
