@@ -1,0 +1,4 @@
+pub mod LawsBelow
+pub mod Routine
+pub mod Built
+pub mod Finished

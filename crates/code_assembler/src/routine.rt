@@ -1,0 +1,225 @@
+//! Routines as they are put together.
+
+ghost use Rattle.std.specs.Prelude.{◌≡◌, ◌⊎◌, ◌<◌, ◌++◌, [], ◌∷◌, IfOk, IfErr, IfSome, OnOk, OnErr, Err, Some, None, length, vec_len, vec_capacity};
+ghost use Rattle.encoder.specs.Encoding.{encoding};
+ghost use Rattle.move_goals.specs.Items.{IsPlaced};
+ghost use Rattle.code_assembler.specs.declared.error.BuildError.TheVariants.{Memory};
+ghost use Rattle.code_assembler.specs.Routine.{no_lines};
+ghost use Rattle.code_assembler.specs.Built as spec;
+ghost use Rattle.code_assembler.specs.Built.{with_label, with_place, with_item, label_refusal, place_refusal, push_refusal};
+
+use crate::assembled::place_of;
+use crate::error::BuildError;
+use crate::label::Label;
+use crate::laws_below::laws_below;
+use encoder::{NoSpelling, encode};
+use move_goals::Placed;
+use move_goals::moved_targets::{plain_length, target_of};
+use std::alloc::{AllocError, Global};
+use std::marker::Model;
+use x86_values::{Bits, Instr};
+
+/// How many labels, and how many instructions, a routine has at most.
+const MOST: usize = 65_536;
+
+/// A routine: instructions and labels, in the order in which they are added.
+///
+/// ```
+/// // A loop that adds the numbers from ECX down to 1.
+/// let mut routine = Assembler::new(rt.alloc(), Bits::B64);
+/// let again = routine.label()?;
+/// routine.push(&read_intel(Bits::B64, 0, b"xor eax, eax")?)?;
+/// routine.place(again)?;
+/// routine.push(&read_intel(Bits::B64, 0, b"add eax, ecx")?)?;
+/// routine.push(&read_intel(Bits::B64, 0, b"dec ecx")?)?;
+/// routine.push_to(&read_intel(Bits::B64, 0, b"jne 0x0")?, again)?;
+/// routine.push(&read_intel(Bits::B64, 0, b"ret")?)?;
+/// let made = routine.finish(rt.alloc(), 0x40_1000)?;
+/// println!(rt; "{}", hex::encode(rt.alloc(), made.bytes())?)?; // 31c001c8ffc975fac3
+/// println!(rt; "{:x?}", made.address(again))?; // Some(401002)
+/// ```
+#[derive(Drop)]
+pub struct Assembler {
+    pub(crate) bits: Bits,
+    pub(crate) items: Vec<Placed>,
+    pub(crate) aims: Vec<Option<u32>>,
+    pub(crate) labels: Vec<Option<u32>>,
+}
+
+impl Model for Assembler {
+    ghost use Rattle.code_assembler.specs.Routine.{RoutineState, IsRoutine};
+
+    ghost Value = { RoutineState };
+
+    ghost view = { λ a. record { bits = a.bits; items = a.items.items; aims = a.aims.items; labels = a.labels.items } };
+
+    ghost invariant = { λ a. IsRoutine (record { bits = a.bits; items = a.items.items; aims = a.aims.items; labels = a.labels.items }) };
+}
+
+/// Appends to a vector that has room.
+fn append<T: Drop>(list: &mut Vec<T>, value: T)
+    requires { vec_len list.old < vec_capacity list.old }
+    ensures { list.new.items ≡ list.old.items ++ value ∷ [] }
+{
+    match list.push(value) {
+        Ok(()) => {}
+        Err(_) => {}
+    }
+}
+
+/// The instruction as one that stands at its own target, or why it has no encoding there.
+fn item_of(bits: Bits, instr: &Instr) -> Result<Placed, NoSpelling>
+    ensures value { IfOk result (λ item. item ≡ spec.item_of bits instr.now) }
+    ensures placed { IfOk result (λ item. IsPlaced bits item) }
+    ensures encoded { IfOk result (λ _. spec.encoding_refusal (encoding bits (spec.own_address instr.now) instr.now) ≡ None) }
+    ensures refused { IfErr result (λ why. spec.encoding_refusal (encoding bits (spec.own_address instr.now) instr.now) ≡ Some (spec.not_encoded why)) }
+{
+    laws_below();
+    let ip = target_of(instr).unwrap_or(0);
+    match encode(bits, ip, instr) {
+        Ok(_bytes) => Ok(Placed {
+            ip,
+            len: plain_length(bits, instr),
+            instr: *instr,
+        }),
+        Err(why) => Err(why),
+    }
+}
+
+/// Why an instruction cannot go to a label, if that is so.
+fn label_fault(labels: &[Option<u32>], instr: &Instr, aim: Option<u32>) -> Option<BuildError>
+    ensures { result ≡ spec.label_fault labels.now instr.now aim }
+{
+    match aim {
+        None => None,
+        Some(label) => {
+            if label as usize >= labels.len() {
+                Some(BuildError::Unknown { label })
+            } else if target_of(instr).is_none() {
+                Some(BuildError::NoTarget)
+            } else {
+                None
+            }
+        }
+    }
+}
+
+impl Assembler {
+    /// Makes an empty routine for a mode.
+    pub fn new(alloc: Global, bits: Bits) -> Assembler
+        ensures { result ≡ no_lines bits }
+    {
+        Assembler {
+            bits,
+            items: Vec::new(alloc),
+            aims: Vec::new(alloc),
+            labels: Vec::new(alloc),
+        }
+    }
+
+    /// Returns the mode.
+    pub fn bits(&self) -> Bits
+        ensures { result ≡ self.now.bits }
+    {
+        self.bits
+    }
+
+    /// Returns how many instructions there are.
+    pub fn len(&self) -> usize
+        ensures { result ≡ length self.now.items }
+    {
+        self.items.len()
+    }
+
+    /// Makes a label without a place. Instructions can go to it before it has one.
+    ///
+    /// Errors: `TooMany` if there are 65,536 labels; `Memory`. Nothing changes then.
+    pub fn label(&mut self) -> Result<Label, BuildError>
+        ensures made { IfOk result (λ label. label.number ≡ length self.old.labels) }
+        ensures state { OnOk result (self.new ≡ with_label self.old) }
+        ensures refused { IfSome (label_refusal self.old) (λ why. result ≡ Err why) }
+        ensures cause { IfErr result (λ why. (label_refusal self.old ≡ Some why) ⊎ (why ≡ Memory)) }
+        ensures unchanged { OnErr result (self.new ≡ self.old) }
+    {
+        let number = self.labels.len();
+        if number >= MOST {
+            return Err(BuildError::TooMany);
+        }
+        self.labels.reserve(1)?;
+        append(&mut self.labels, None);
+        Ok(Label {
+            number: number as u32,
+        })
+    }
+
+    /// Places a label before the next instruction that is added.
+    ///
+    /// Errors: `Unknown` if the routine has no such label; `PlacedTwice` if the label has a place. Nothing changes then.
+    pub fn place(&mut self, label: Label) -> Result<(), BuildError>
+        ensures state { OnOk result (self.new ≡ with_place self.old label.number) }
+        ensures refused { IfSome (place_refusal self.old label.number) (λ why. result ≡ Err why) }
+        ensures cause { IfErr result (λ why. place_refusal self.old label.number ≡ Some why) }
+        ensures unchanged { OnErr result (self.new ≡ self.old) }
+    {
+        let number = label.number;
+        if number as usize >= self.labels.len() {
+            return Err(BuildError::Unknown { label: number });
+        }
+        if place_of(&self.labels, number).is_some() {
+            return Err(BuildError::PlacedTwice { label: number });
+        }
+        self.labels[number as usize] = Some(self.items.len() as u32);
+        Ok(())
+    }
+
+    /// Adds an instruction, with a label to go to or none.
+    fn push_aimed(&mut self, instr: &Instr, aim: Option<u32>) -> Result<(), BuildError>
+        ensures state { OnOk result (self.new ≡ with_item self.old instr.now aim) }
+        ensures refused { IfSome (push_refusal self.old instr.now aim) (λ why. result ≡ Err why) }
+        ensures cause { IfErr result (λ why. (push_refusal self.old instr.now aim ≡ Some why) ⊎ (why ≡ Memory)) }
+        ensures unchanged { OnErr result (self.new ≡ self.old) }
+    {
+        if self.items.len() >= MOST {
+            return Err(BuildError::TooMany);
+        }
+        if let Some(why) = label_fault(&self.labels, instr, aim) {
+            return Err(why);
+        }
+        let item = match item_of(self.bits, instr) {
+            Ok(item) => item,
+            Err(why) => return Err(BuildError::NotEncoded { why }),
+        };
+        self.items.reserve(1)?;
+        self.aims.reserve(1)?;
+        append(&mut self.items, item);
+        append(&mut self.aims, aim);
+        Ok(())
+    }
+
+    /// Adds an instruction. If it is a near branch, or has an operand at RIP or EIP, it goes to that address, wherever the routine lies.
+    ///
+    /// Errors, in this order: `TooMany` if there are 65,536 instructions; `NotEncoded` if it has no encoding in the mode, even at its own target;
+    /// `Memory`. Nothing changes then.
+    pub fn push(&mut self, instr: &Instr) -> Result<(), BuildError>
+        ensures state { OnOk result (self.new ≡ with_item self.old instr.now None) }
+        ensures refused { IfSome (push_refusal self.old instr.now None) (λ why. result ≡ Err why) }
+        ensures cause { IfErr result (λ why. (push_refusal self.old instr.now None ≡ Some why) ⊎ (why ≡ Memory)) }
+        ensures unchanged { OnErr result (self.new ≡ self.old) }
+    {
+        self.push_aimed(instr, None)
+    }
+
+    /// Adds an instruction that goes to a label: a near branch, whose own target is of no account, or an instruction with an operand at RIP or EIP, which
+    /// then has the address of the label. The label may be placed later.
+    ///
+    /// Errors, in this order: `TooMany` if there are 65,536 instructions; `Unknown` if the routine has no such label; `NoTarget` if the instruction is no
+    /// such one; `NotEncoded` if it has no encoding in the mode, even at its own target; `Memory`. Nothing changes then.
+    pub fn push_to(&mut self, instr: &Instr, label: Label) -> Result<(), BuildError>
+        ensures state { OnOk result (self.new ≡ with_item self.old instr.now (Some label.number)) }
+        ensures refused { IfSome (push_refusal self.old instr.now (Some label.number)) (λ why. result ≡ Err why) }
+        ensures cause { IfErr result (λ why. (push_refusal self.old instr.now (Some label.number) ≡ Some why) ⊎ (why ≡ Memory)) }
+        ensures unchanged { OnErr result (self.new ≡ self.old) }
+    {
+        self.push_aimed(instr, Some(label.number))
+    }
+}
