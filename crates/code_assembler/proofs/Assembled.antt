@@ -54,7 +54,7 @@ module _ (laws : AssemblerLawsBelow) where
   unfolding first_unplaced
   label_stands labels aims count none k label lt aim =
       let aimed : is_aimed labels count (aim_at aims k) ≡ true =
-          not_false (is_aimed labels count (aim_at aims k)) (laws.firsts.none_below (λ j. not (is_aimed labels count (aim_at aims j))) count none k lt) in
+      not_false (is_aimed labels count (aim_at aims k)) (laws.firsts.none_below (λ j. not (is_aimed labels count (aim_at aims j))) count none k lt) in
       stands_of count (label_place labels label) (subst (λ (a : Option ℕ). is_aimed labels count a ≡ true) aim aimed)
 
   goal_there : (labels : List (Option ℕ)) (count : ℕ) (item : Placed) (aim : Option ℕ) (label j : ℕ) → aim ≡ Some label → label_place labels label ≡ Some j → j < count

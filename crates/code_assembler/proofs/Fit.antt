@@ -38,5 +38,5 @@ module _ (laws : AssemblerLawsBelow) (bits : Bits) (labels aims : List (Option �
   unfolding plan_with
   items_fit placed few branches are =
       let plan = laws.plans.well_formed_with bits (one_span items 0) items placed (routine_goals labels aims items)
-          (λ k. aim_fit (item_at items k) (aim_at aims k)) few (laws.plans.one_span-of items 0) in
+      (λ k. aim_fit (item_at items k) (aim_at aims k)) few (laws.plans.one_span-of items 0) in
       subst (λ (bs : List Branch). IsTrue (list_all (is_fit_branch (length bs)) bs)) (sym are) plan.fit

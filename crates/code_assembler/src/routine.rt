@@ -36,7 +36,7 @@ const MOST: usize = 65_536;
 /// routine.push(&read_intel(Bits::B64, 0, b"ret")?)?;
 /// let made = routine.finish(rt.alloc(), 0x40_1000)?;
 /// println!(rt; "{}", hex::encode(rt.alloc(), made.bytes())?)?; // 31c001c8ffc975fac3
-/// println!(rt; "{:x?}", made.address(again))?; // Some(401002)
+/// println!(rt; "{:?}", made.address(again))?; // Some(4198402)
 /// ```
 #[derive(Drop)]
 pub struct Assembler {

@@ -1,7 +1,7 @@
 //! The calls that users meet first, each with its result. The docstrings of the library show these lines as their examples.
 
 use bitflags::Flags;
-use feddurzai::assembling::{assemble, read_intel};
+use feddurzai::assembling::{Assembler, assemble, read_intel};
 use feddurzai::decoding::{Decoder, Items, decode_in, read_items};
 use feddurzai::encoding::{encode, encoded_len};
 use feddurzai::flow::graph_of_code;
@@ -84,6 +84,23 @@ fn encode_jump(rt: &HostRuntime) -> anyhow::Result<()> {
 fn assemble_one(rt: &HostRuntime) -> anyhow::Result<()> {
     let bytes = assemble(Bits::B64, 0x40_1000, b"add r12, rax")?;
     println!(rt; "{}", hex::encode(rt.alloc(), &bytes)?)?; // 4901c4
+    Ok(())
+}
+
+/// Puts a loop together, with a label.
+fn build_loop(rt: &HostRuntime) -> anyhow::Result<()> {
+    // A loop that adds the numbers from ECX down to 1.
+    let mut routine = Assembler::new(rt.alloc(), Bits::B64);
+    let again = routine.label()?;
+    routine.push(&read_intel(Bits::B64, 0, b"xor eax, eax")?)?;
+    routine.place(again)?;
+    routine.push(&read_intel(Bits::B64, 0, b"add eax, ecx")?)?;
+    routine.push(&read_intel(Bits::B64, 0, b"dec ecx")?)?;
+    routine.push_to(&read_intel(Bits::B64, 0, b"jne 0x0")?, again)?;
+    routine.push(&read_intel(Bits::B64, 0, b"ret")?)?;
+    let made = routine.finish(rt.alloc(), 0x40_1000)?;
+    println!(rt; "{}", hex::encode(rt.alloc(), made.bytes())?)?; // 31c001c8ffc975fac3
+    println!(rt; "{:?}", made.address(again))?; // Some(4198402)
     Ok(())
 }
 
@@ -254,6 +271,7 @@ fn run_reading(rt: &HostRuntime) -> anyhow::Result<()> {
     find_parts(rt)?;
     encode_jump(rt)?;
     assemble_one(rt)?;
+    build_loop(rt)?;
     print_one(rt)
 }
 

@@ -23,6 +23,9 @@ pub use Rattle.code_items.specs.Iteration
 pub use Rattle.encoder.specs.Encoding
 pub use Rattle.row_relation.specs.PlainLaws.Plain
 pub use Rattle.intel_reader.specs.Assembled
+pub use Rattle.code_assembler.specs.Routine
+pub use Rattle.code_assembler.specs.Built as BuiltRoutines
+pub use Rattle.code_assembler.specs.Finished as FinishedRoutines
 pub use Rattle.intel_text.specs.Text as IntelText
 pub use Rattle.att_text.specs.Text as AttText
 pub use Rattle.masm_text.specs.Text as MasmText

@@ -52,8 +52,10 @@ pub mod encoding {
     };
 }
 
-/// Assembling: the instruction that an Intel text stands for, and its bytes.
+/// Assembling: the instruction that an Intel text stands for, and its bytes; and routines of instructions and labels. `Assembler` puts one together, and
+/// `finish` gives its bytes in the least layout.
 pub mod assembling {
+    pub use code_assembler::{Assembled, Assembler, BuildError, FinishError, Label};
     pub use intel_reader::{TextError, assemble, laws, read_intel};
 }
 
