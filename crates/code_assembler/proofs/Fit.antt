@@ -1,12 +1,11 @@
 -- The plan of a routine is well formed: the goal of each instruction is an instruction or an address.
-use Rattle.std.proofs.Common.{◌≡◌, ℕ, ◌≤◌, ◌<◌, inl, inr, Bool, true, false, List, length, map, Option, Some, None, refl, subst, sym}
-use Rattle.std.specs.Prelude.{if◌then◌else◌, nat_lt, IsTrue}
+use Rattle.std.proofs.Common.{◌≡◌, ℕ, ◌≤◌, inl, inr, true, List, length, map, Option, Some, None, refl, subst, sym}
+use Rattle.std.specs.Prelude.{nat_lt, IsTrue}
 use Rattle.std.specs.List.{list_all, range_with_len}
 use Rattle.std.proofs.lemmas.Bool.{cases_Bool}
 use Rattle.x86_values.specs.declared.Bits.{Bits}
 use Rattle.branch_sizes.specs.declared.plan.Branch.{Branch}
 use Rattle.branch_sizes.specs.declared.plan.Goal.{Goal}
-use Rattle.branch_sizes.specs.declared.plan.Goal.TheVariants.{Inside}
 use Rattle.branch_sizes.specs.Plan.{is_fit_goal, is_fit_branch}
 use Rattle.move_goals.specs.MovedTargets.Targets.{target_of}
 use Rattle.move_goals.specs.BranchForms.Choices.{choices_of}

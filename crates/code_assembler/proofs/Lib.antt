@@ -1,2 +1,2 @@
 pub mod Fit
-pub mod Assembled
+pub mod AtLabels

@@ -65,9 +65,11 @@ abbrev pub first_of : Option BuildError → Option BuildError → Option BuildEr
 first_of (Some why) other = Some why
 first_of None other = other
 
--- why no instruction is added, memory apart
-unfoldable pub push_refusal : RoutineState → Instr → Option ℕ → Option BuildError
-push_refusal s i aim =
-    if nat_lt (length s.items) 65536
-    then first_of (label_fault s.labels i aim) (encoding_refusal (encoding s.bits (own_address i) i))
-    else Some TooMany
+-- why no instruction is added to so many in a mode, with these labels, memory apart
+unfoldable pub push_fault : Bits → ℕ → List (Option ℕ) → Instr → Option ℕ → Option BuildError
+push_fault bits count labels i aim =
+    if nat_lt count 65536 then first_of (label_fault labels i aim) (encoding_refusal (encoding bits (own_address i) i)) else Some TooMany
+
+-- why none is added to a routine
+abbrev pub push_refusal : RoutineState → Instr → Option ℕ → Option BuildError
+push_refusal s i aim = push_fault s.bits (length s.items) s.labels i aim

@@ -33,6 +33,11 @@ finish_error_of plan_error.Memory = Memory
 finish_error_of (plan_error.Wraps end) = Wraps end
 finish_error_of (plan_error.TooFar at target) = TooFar at target
 
+-- what a move gives, with where the labels stand
+abbrev pub finished_by : Result MovedLists PlanError → List (Option ℕ) → Result AssembledState FinishError
+finished_by (Ok m) labels = Ok (record { moved = m; labels = labels })
+finished_by (Err why) labels = Err (finish_error_of why)
+
 -- Instruction k goes to a label: what its image is aimed at is the address of the label.
 pub record GoesToLabel (s : RoutineState) (base : ℕ) (layout : List ℕ) (a : AssembledState) (k label : ℕ) : Type 0 where
   pub stands : ℕ

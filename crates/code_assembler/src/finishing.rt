@@ -1,19 +1,19 @@
 //! The bytes of a routine.
 
-ghost use Rattle.std.specs.Prelude.{◌≡◌, ◌≤◌, ◌<◌, length, IfOk};
+ghost use Rattle.std.specs.Prelude.{◌≡◌, ◌≤◌, ◌<◌, length, IfOk, None};
 ghost use Rattle.move_goals.specs.Items.{ArePlaced};
 ghost use Rattle.move_goals.specs.Plan as plan;
 ghost use Rattle.move_goals.specs.Plan.{branch_with, plan_with};
 ghost use Rattle.move_goals.specs.Items.{one_span};
 ghost use Rattle.code_assembler.specs.Routine as spec;
 ghost use Rattle.code_assembler.specs.Routine.{routine_goals};
-ghost use Rattle.code_assembler.specs.Finished.{IsFinished};
+ghost use Rattle.code_assembler.specs.Finished.{IsFinished, finished_by};
 
 use crate::assembled::{Assembled, place_of};
 use crate::error::FinishError;
 use crate::laws_below::laws_below;
 use crate::routine::Assembler;
-use block_encoder::move_planned;
+use block_encoder::{MovedBlocks, PlanError, move_planned};
 use branch_sizes::{Branch, Goal, Plan};
 use move_goals::Placed;
 use move_goals::branch_forms::choices_of;
@@ -135,6 +135,19 @@ fn copy_of(alloc: Global, labels: &[Option<u32>]) -> Result<Vec<Option<u32>>, Al
     Ok(copy)
 }
 
+/// What a move of a routine gives, with the places of its labels.
+fn assembled_of(
+    moved: Result<MovedBlocks, PlanError>,
+    labels: Vec<Option<u32>>,
+) -> Result<Assembled, FinishError>
+    ensures { result ≡ finished_by moved labels.items }
+{
+    match moved {
+        Ok(moved) => Ok(Assembled { moved, labels }),
+        Err(why) => Err(FinishError::from(why)),
+    }
+}
+
 impl Assembler {
     /// Returns the bytes of the routine with its first byte at the address `base`, in the least layout: short branches unless one does not reach, and no
     /// branch longer than that makes it. A branch on a counter that does not reach goes over a jump. In 64-bit mode a branch to an address that is out of
@@ -149,9 +162,18 @@ impl Assembler {
         ensures { IsFinished self.now base result }
     {
         laws_below();
-        if let Some(at) = first_unplaced(&self.labels, &self.aims) {
-            return Err(FinishError::Unplaced { at });
+        match first_unplaced(&self.labels, &self.aims) {
+            Some(at) => Err(FinishError::Unplaced { at }),
+            None => self.finish_placed(alloc, base),
         }
+    }
+
+    /// The bytes of a routine in which each label that is gone to stands before an instruction.
+    fn finish_placed(&self, alloc: Global, base: u64) -> Result<Assembled, FinishError>
+        requires { spec.first_unplaced self.now.labels self.now.aims (length self.now.items) ≡ None }
+        ensures { IsFinished self.now base result }
+    {
+        laws_below();
         let plan = plan_at(
             alloc,
             self.bits,
@@ -161,7 +183,7 @@ impl Assembler {
             base,
         )?;
         let labels = copy_of(alloc, &self.labels)?;
-        let moved = move_planned(alloc, self.bits, &self.items, &plan)?;
-        Ok(Assembled { moved, labels })
+        let moved = move_planned(alloc, self.bits, &self.items, &plan);
+        assembled_of(moved, labels)
     }
 }

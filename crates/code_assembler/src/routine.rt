@@ -104,6 +104,33 @@ fn label_fault(labels: &[Option<u32>], instr: &Instr, aim: Option<u32>) -> Optio
     }
 }
 
+/// The instruction to be added to `count` others, or why it is not added.
+#[tactic(auto, using(std::proofs::lemmas::Bool::Decides::nat_tests), unfolding(crate::specs::Built::push_fault))]
+fn item_for(
+    bits: Bits,
+    count: usize,
+    labels: &[Option<u32>],
+    instr: &Instr,
+    aim: Option<u32>,
+) -> Result<Placed, BuildError>
+    ensures value { IfOk result (λ item. item ≡ spec.item_of bits instr.now) }
+    ensures placed { IfOk result (λ item. IsPlaced bits item) }
+    ensures added { IfOk result (λ _. spec.push_fault bits count labels.now instr.now aim ≡ None) }
+    ensures few { IfOk result (λ _. count < 65536) }
+    ensures refused { IfErr result (λ why. spec.push_fault bits count labels.now instr.now aim ≡ Some why) }
+{
+    if count >= MOST {
+        return Err(BuildError::TooMany);
+    }
+    if let Some(why) = label_fault(labels, instr, aim) {
+        return Err(why);
+    }
+    match item_of(bits, instr) {
+        Ok(item) => Ok(item),
+        Err(why) => Err(BuildError::NotEncoded { why }),
+    }
+}
+
 impl Assembler {
     /// Makes an empty routine for a mode.
     pub fn new(alloc: Global, bits: Bits) -> Assembler
@@ -179,15 +206,9 @@ impl Assembler {
         ensures cause { IfErr result (λ why. (push_refusal self.old instr.now aim ≡ Some why) ⊎ (why ≡ Memory)) }
         ensures unchanged { OnErr result (self.new ≡ self.old) }
     {
-        if self.items.len() >= MOST {
-            return Err(BuildError::TooMany);
-        }
-        if let Some(why) = label_fault(&self.labels, instr, aim) {
-            return Err(why);
-        }
-        let item = match item_of(self.bits, instr) {
+        let item = match item_for(self.bits, self.items.len(), &self.labels, instr, aim) {
             Ok(item) => item,
-            Err(why) => return Err(BuildError::NotEncoded { why }),
+            Err(why) => return Err(why),
         };
         self.items.reserve(1)?;
         self.aims.reserve(1)?;

@@ -1,28 +1,52 @@
 -- The bytes of a routine are read as its instructions, and its labels have the addresses to which they go.
-use Rattle.std.proofs.Common.{◌≡◌, ℕ, ◌+◌, ◌<◌, ◌≤◌, inl, inr, Bool, true, false, not, List, length, map, get_or, Option, Some, None, refl, sym, subst, ap, ◌∙◌, arith}
-use Rattle.std.specs.Prelude.{nat_lt, slice_get, if◌then◌else◌}
+use Rattle.std.proofs.Common.{◌≡◌, ℕ, ◌<◌, Bool, true, false, not, List, [], ◌∷◌, ◌++◌, length, map, Option, Some, None, refl, subst, ap, ◌∙◌, arith}
+use Rattle.std.specs.Prelude.{slice_get, if◌then◌else◌, Result, Ok, Err}
 use Rattle.std.specs.List.{range_with_len}
-use Rattle.std.proofs.lemmas.Bool.{cases_Bool, lt-ltb, ltb-true}
+use Rattle.std.proofs.lemmas.Bool.{lt-ltb, ltb-true}
 use Rattle.std.proofs.lemmas.List.FromFn.{length-map-range_with_len, get_or-map-range_with_len}
 use Rattle.std.proofs.lemmas.Option.{slice_get-get_or}
+use Rattle.std.proofs.lemmas.List.{length-append}
+use Rattle.std.proofs.lemmas.List.Elements.{All-append, All-cons, All-nil}
 use Rattle.x86_values.specs.declared.Bits.{Bits}
+use Rattle.x86_values.specs.declared.Instr.{Instr}
+use Rattle.x86_values.specs.Wrapping.{modulo_width}
+use Rattle.row_relation.specs.PlainLaws.Plain.{IsPlainlySpelled}
+use Rattle.opcode_rows.specs.Table.{table}
 use Rattle.branch_sizes.specs.declared.plan.Branch.{Branch}
-use Rattle.branch_sizes.specs.declared.plan.Goal.{Goal}
 use Rattle.branch_sizes.specs.declared.plan.Goal.TheVariants.{Inside}
-use Rattle.branch_sizes.specs.Plan.{BlockPlan}
-use Rattle.branch_sizes.specs.Plan as plan
 use Rattle.branch_sizes.specs.Layout.{block_number, place}
 use Rattle.branch_sizes.specs.MoveLayout.Laid.{goal_value, goal_address}
-use Rattle.move_goals.specs.MovedTargets.Targets.{target_of}
+use Rattle.move_goals.specs.MovedTargets.Targets.{target_of, plain_length}
 use Rattle.move_goals.specs.declared.items.Placed.{Placed}
-use Rattle.move_goals.specs.Items.{ArePlaced, item_at, no_item, one_span}
-use Rattle.move_goals.specs.Plan.{branch_with, plan_with, kept_goal}
+use Rattle.move_goals.specs.Items.{IsPlaced, ArePlaced, item_at, no_item, one_span}
+use Rattle.move_goals.specs.Plan.{plan_with, kept_goal}
 use Rattle.block_encoder.specs.Aims.{StandsAtPlace, GoesToGoal}
 use Rattle.block_encoder.specs.Moved.{MovedLists}
-use Rattle.block_encoder.specs.ByPlan.{IsMovedBy}
+use Rattle.block_encoder.specs.declared.error.PlanError.{PlanError}
+use Rattle.block_encoder.specs.declared.error.PlanError.TheVariants as plan_error
+use Rattle.block_encoder.specs.ByPlan.{IsMovedBy, IsPlanAnswer}
+use Rattle.block_encoder.specs.Planned.{as_moving}
 use Rattle.code_assembler.specs.LawsBelow.{AssemblerLawsBelow}
 use Rattle.code_assembler.specs.Routine.{RoutineState, IsRoutine, label_place, aim_at, stands_before, is_aimed, first_unplaced, stand_goal, aim_goal, routine_goals, routine_plan}
-use Rattle.code_assembler.specs.Finished.{AssembledState, start_at, GoesToLabel, IsAssembled}
+use Rattle.code_assembler.specs.Finished.{start_at, finished_by, GoesToLabel, IsAssembled, IsFinished}
+
+-- an instruction with an encoding at an address is well placed there
+pub encoded_placed : AssemblerLawsBelow → (bits : Bits) (ip len : ℕ) (i : Instr) (bytes : List ℕ) → len ≡ plain_length bits i
+    → IsPlainlySpelled table bits (modulo_width bits ip) bytes i → IsPlaced bits (record { ip = ip; len = len; instr = i })
+encoded_placed laws bits ip len i bytes is plain =
+    let spelled = laws.encodings.plain-spells bits (modulo_width bits ip) bytes i plain in
+    let size = laws.targets.spelled-length bits (modulo_width bits ip) bytes i spelled in
+    record { some = omega (arith, is, size.0); few = omega (arith, is, size.1); bytes = bytes; spelled = spelled }
+
+-- a routine with one more instruction is one
+pub one_more : (s : RoutineState) (item : Placed) (aim : Option ℕ) → IsRoutine s → IsPlaced s.bits item → length s.items < 65536
+    → IsRoutine (record s { items = s.items ++ item ∷ []; aims = s.aims ++ aim ∷ [] })
+one_more s item aim is placed few = record {
+  aimed = omega (arith, length-append s.aims (aim ∷ []), length-append s.items (item ∷ []), is.aimed);
+  placed = All-append (IsPlaced s.bits) s.items (item ∷ []) is.placed (All-cons (IsPlaced s.bits) item [] placed (All-nil (IsPlaced s.bits)));
+  few = omega (arith, length-append s.items (item ∷ []), few);
+  few_labels = is.few_labels;
+}
 
 -- the instructions of a routine are well placed
 pub all_placed : (s : RoutineState) → IsRoutine s → ArePlaced s.bits s.items
@@ -121,3 +145,11 @@ module _ (laws : AssemblerLawsBelow) where
         });
         to_labels = λ k label lt aim. to_label s base none m moved k label lt aim;
       }
+
+  -- **the answer is what a move by the plan gives**
+  pub finished : (s : RoutineState) (base : ℕ) → IsRoutine s → first_unplaced s.labels s.aims (length s.items) ≡ None → (answer : Result MovedLists PlanError)
+      → IsPlanAnswer s.bits s.items (routine_plan s base) (as_moving answer) → IsFinished s base (finished_by answer s.labels)
+  finished s base is none (Ok m) moved = assembled s base is none m moved
+  finished s base is none (Err plan_error.Memory) h = none
+  finished s base is none (Err (plan_error.Wraps end)) h = (none, h)
+  finished s base is none (Err (plan_error.TooFar at target)) h = (none, h)

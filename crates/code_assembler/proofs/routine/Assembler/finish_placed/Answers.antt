@@ -1,0 +1,34 @@
+use Rattle.std.proofs.Common.{◌≡◌, List, length, Option, ℕ, sym, subst, ap, ◌∙◌}
+use Rattle.std.specs.Prelude.{None}
+use Rattle.branch_sizes.specs.Plan.{BlockPlan}
+use Rattle.move_goals.specs.declared.items.Placed.{Placed}
+use Rattle.move_goals.specs.Items.{one_span}
+use Rattle.move_goals.specs.Plan.{plan_with}
+use Rattle.block_encoder.specs.ByPlan.{IsPlanAnswer}
+use Rattle.block_encoder.specs.Planned.{as_moving}
+use Rattle.code_assembler.specs.Routine.{RoutineState, IsRoutine, first_unplaced, routine_goals, routine_plan}
+use Rattle.code_assembler.specs.Finished.{finished_by, IsFinished}
+use Rattle.code_assembler.proofs.AtLabels.{finished}
+use Rattle.code_assembler.proofs.routine.Assembler.finish_placed.Goals as goal
+
+pub returns : goal.returns
+unfolding routine_plan
+returns c =
+    let s : RoutineState = record { bits = c.self.inside.bits; items = c.self.inside.items.items; aims = c.self.inside.aims.items; labels = c.self.inside.labels.items } in
+    let same : c.args.self.now ≡ s = sym c.self.view_is in
+    let is : IsRoutine s = c.self.invariant in
+    let none : first_unplaced s.labels s.aims (length s.items) ≡ None =
+    subst (λ (t : RoutineState). first_unplaced t.labels t.aims (length t.items) ≡ None) same c.requires in
+    let items : c.deref-5.result.now ≡ s.items = c.deref-5.ensures.value in
+    let plan =
+    c.in_ok-plan.ensures
+    ∙ (ap (λ (xs : List Placed). plan_with s.bits (one_span xs c.args.base) xs (routine_goals c.deref.result.now c.deref-2.result.now xs)) c.deref-3.ensures.value
+    ∙ (ap (λ (ls : List (Option ℕ)). plan_with s.bits (one_span s.items c.args.base) s.items (routine_goals ls c.deref-2.result.now s.items)) c.deref.ensures.value
+    ∙ ap (λ (xs : List (Option ℕ)). plan_with s.bits (one_span s.items c.args.base) s.items (routine_goals s.labels xs s.items)) c.deref-2.ensures.value)) in
+    let moved : IsPlanAnswer s.bits s.items (routine_plan s c.args.base) (as_moving c.move_planned-moved.result) =
+    subst (λ (p : BlockPlan). IsPlanAnswer s.bits s.items p (as_moving c.move_planned-moved.result)) plan
+    (subst (λ (xs : List Placed). IsPlanAnswer s.bits xs c.in_ok-plan.plan (as_moving c.move_planned-moved.result)) items c.move_planned-moved.ensures) in
+    let labels : c.in_ok-labels.labels.items ≡ s.labels = c.in_ok-labels.ensures ∙ c.deref-4.ensures.value in
+    subst (λ (t : RoutineState). IsFinished t c.args.base c.assembled_of.result) (sym same)
+    (subst (λ r. IsFinished s c.args.base r) (sym (c.assembled_of.ensures ∙ ap (finished_by c.move_planned-moved.result) labels))
+    (finished c.laws_below.ensures s c.args.base is none c.move_planned-moved.result moved))
