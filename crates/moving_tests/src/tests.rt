@@ -9,6 +9,7 @@ mod items;
 mod layout_tests;
 mod port_tests;
 mod region_tests;
+mod routine_tests;
 mod sight_tests;
 mod size_tests;
 mod slot_model_tests;
