@@ -24,7 +24,7 @@ same-length items place m =
     ∙ sym (length-map-range_with_len (offset_at items) 0 (moved_count items))
 
 -- so they do in a detour
-detour-pairs : (bits : Bits) (ip : ℕ) (code : List ℕ) (to place : ℕ) (rules : HookRules) (d : DetourState)
+pub detour-pairs : (bits : Bits) (ip : ℕ) (code : List ℕ) (to place : ℕ) (rules : HookRules) (d : DetourState)
     → IsDetour bits ip code to place (move_rule rules) d
     → length d.places ≡ length d.starts
 detour-pairs bits ip code to place rules d is =
