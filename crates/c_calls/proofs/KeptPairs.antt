@@ -1,5 +1,5 @@
--- A detour that keeps an ENDBR has a place in the trampoline for each moved instruction.
-use Rattle.std.proofs.Common.{◌≡◌, ℕ, ◌+◌, ◌^◌, inl, inr, Bool, true, false, List, length, Option, Some, None, drop}
+-- A detour that keeps an ENDBR, or goes through padding, has a place in the trampoline for each moved instruction.
+use Rattle.std.proofs.Common.{◌≡◌, ℕ, ◌+◌, ◌^◌, inl, inr, Bool, true, false, List, length, Option, Some, None, drop, ap, sym, ◌∙◌}
 use Rattle.std.specs.Prelude.{IfOk, Result, Ok, Err, nat_lt}
 use Rattle.std.proofs.lemmas.Bool.{cases_Bool, ltb-true, ltb-false}
 use Rattle.x86_values.specs.declared.Bits.{Bits}
@@ -9,9 +9,12 @@ use Rattle.detour.specs.declared.rules.RuleError.{RuleError}
 use Rattle.detour.specs.declared.rules.SeenDetour.{SeenDetour}
 use Rattle.detour.specs.Rules.{IsRuledAnswer}
 use Rattle.detour.specs.Kept.{KeptState, has_endbr, tail_entries, IsTailAnswer, IsKeptBy}
+use Rattle.detour.specs.Padding.{PaddedState}
 use Rattle.c_calls.specs.declared.kept.KeptRefusal.{KeptRefusal}
 use Rattle.c_calls.specs.Kept.{IsKeptAnswerBy}
-use Rattle.c_calls.proofs.MovedPairs.{detour-pairs}
+use Rattle.c_calls.specs.declared.padded.PaddedRefusal.{PaddedRefusal}
+use Rattle.c_calls.specs.Padded.{IsPaddedAnswerBy}
+use Rattle.c_calls.proofs.MovedPairs.{same-length, detour-pairs}
 
 -- a detour by rules has
 seen-pairs : (bits : Bits) (ip : ℕ) (code : List ℕ) (to place : ℕ) (entries : List ℕ) (rules : HookRules) (seen : SeenDetour)
@@ -45,3 +48,15 @@ kept-pairs None rules ip code to place entries (Ok made) h = absurd cc
 kept-pairs (Some bits) None ip code to place entries (Ok made) h = absurd cc
 kept-pairs (Some bits) (Some rules) ip code to place entries (Ok made) (few, is) =
     by-pairs (has_endbr bits code) bits ip code to place entries rules made is
+
+-- ---- through padding
+
+-- a detour through padding has as many places as starts
+pub padded-pairs : (bits : Option Bits) (rules : Option HookRules) (ip : ℕ) (padding code : List ℕ) (to place : ℕ) (entries : List ℕ)
+    (answer : Result PaddedState PaddedRefusal) → IsPaddedAnswerBy bits rules ip padding code to place entries answer
+    → IfOk answer (λ made. length made.seen.detour.places ≡ length made.seen.detour.starts)
+padded-pairs bits rules ip padding code to place entries (Err e) h = tt
+padded-pairs None rules ip padding code to place entries (Ok made) h = absurd cc
+padded-pairs (Some bits) None ip padding code to place entries (Ok made) h = absurd cc
+padded-pairs (Some bits) (Some rules) ip padding code to place entries (Ok made) h =
+    let is = h.1.1.made in ap length is.places ∙ (same-length is.items place is.moved ∙ sym (ap length is.starts))

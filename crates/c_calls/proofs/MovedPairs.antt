@@ -16,7 +16,7 @@ use Rattle.c_calls.specs.declared.ruled.RuledRefusal.{RuledRefusal}
 use Rattle.c_calls.specs.Ruled.{IsRuledAnswerBy}
 
 -- the two lists have one element for each moved instruction
-same-length : (items : List Placed) (place : ℕ) (m : MovedLists)
+pub same-length : (items : List Placed) (place : ℕ) (m : MovedLists)
     → length (places_of items place m) ≡ length (starts_of items)
 unfolding starts_to places_to
 same-length items place m =

@@ -21,6 +21,7 @@ pub mod Hooks
 pub mod Looking
 pub mod Ruled
 pub mod Kept
+pub mod Padded
 pub mod Lengths
 pub mod Steps
 pub mod StepCalls

@@ -32,6 +32,7 @@ pub mod moving;
 pub mod names;
 mod numbers;
 pub mod offsets;
+pub mod padded;
 mod refusal;
 pub mod region;
 mod region_search;
