@@ -759,6 +759,7 @@ for test in (
     moved_and_followed,
     hooks_are_made,
     hooks_are_made_by_rules,
+    hooks_take_other_forms,
     refusals_say_why,
     encodings_say_their_cause,
     values_are_looked_at_first,
