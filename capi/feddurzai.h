@@ -23,8 +23,8 @@
  * Threads: the library has no global state and takes no locks, so any number of threads may call it at once.
  *
  * Memory: feddurzai_move, feddurzai_move_outside, feddurzai_move_blocks, feddurzai_step, feddurzai_step_call,
- * feddurzai_flow, feddurzai_flow_from, feddurzai_flow_unlisted, feddurzai_detour, feddurzai_look and
- * feddurzai_detour_with call malloc, realloc and free, and free all that they allocate before they return. All other
+ * feddurzai_flow, feddurzai_flow_from, feddurzai_flow_unlisted, feddurzai_look and all feddurzai_detour functions
+ * call malloc, realloc and free, and free all that they allocate before they return. All other
  * functions allocate nothing and may be called from a signal handler or from a hook of malloc.
  *
  * The header is C99 and C++. Numbers are in the machine's byte order. Lengths and sizes are in bytes. "SDM" is the
@@ -44,7 +44,7 @@ extern "C" {
 /* ---- versions ---------------------------------------------------------------------------------------------- */
 
 /* The interface that this header declares. It rises when a struct, a number or a function changes. */
-#define FEDDURZAI_INTERFACE 7
+#define FEDDURZAI_INTERFACE 8
 
 /*
  * Returns the interface of the linked library. If it is not FEDDURZAI_INTERFACE, the library does not match this
@@ -64,8 +64,9 @@ uint32_t feddurzai_version(void);
  * Statuses. A function that returns int32_t returns 0 or more on success and one of these on refusal.
  *
  * After a refusal the function has written nothing, with one exception: feddurzai_move, feddurzai_move_outside,
- * feddurzai_move_blocks, feddurzai_step, feddurzai_step_call, feddurzai_step_unlisted, feddurzai_detour and
- * feddurzai_detour_with always write their report, unless they return FEDDURZAI_NULL.
+ * feddurzai_move_blocks, feddurzai_step, feddurzai_step_call, feddurzai_step_unlisted, feddurzai_detour,
+ * feddurzai_detour_with, feddurzai_detour_endbr and feddurzai_detour_padding always write their report, unless they
+ * return FEDDURZAI_NULL.
  *
  * If several refusals apply, the function returns the first in the order of its comment. FEDDURZAI_NULL precedes all
  * others. Every function that takes a pointer can return it, so the comments do not repeat it.
@@ -102,7 +103,8 @@ enum {
     FEDDURZAI_NOT_LIVE = -27,       /* no live block starts at this address */
     FEDDURZAI_UNSEEN = -28,         /* control cannot be followed through the whole function */
     FEDDURZAI_OVERLAPS = -29,       /* the trampoline would lie in the bytes of the function */
-    FEDDURZAI_CALLS = -30           /* a moved call would hand an address in the trampoline to what it calls */
+    FEDDURZAI_CALLS = -30,          /* a moved call would hand an address in the trampoline to what it calls */
+    FEDDURZAI_PADDING = -31         /* the padding in front of the function has too few bytes, or other code */
     /* -256 and below: the instruction has no encoding, see FEDDURZAI_CAUSE */
 };
 
@@ -1538,6 +1540,99 @@ int32_t feddurzai_detour_with(uint32_t bits, uint64_t ip, const uint8_t *code, s
     uint8_t *trampoline, size_t trampoline_room, feddurzai_moved_start *moved, size_t moved_room,
     feddurzai_hook_report *report);
 
+#define FEDDURZAI_MAX_TRAMPOLINE 400    /* the longest trampoline of a detour, in bytes */
+
+/*
+ * Returns how many bytes are enough for the trampoline of feddurzai_detour_with at any place, so that a place for it can
+ * be reserved first (feddurzai_region_reserve). It is at most FEDDURZAI_MAX_TRAMPOLINE, and 0 if there is no detour at
+ * any place. Without FEDDURZAI_RULE_RETURNS it is enough for feddurzai_detour too; for feddurzai_detour_endbr reserve 4
+ * bytes more.
+ *
+ *  - bits, ip, code, len, to, start, rules: as in feddurzai_detour_with.
+ *
+ * Returns the length, or FEDDURZAI_BAD_MODE, _BAD_START, _TOO_LARGE, _NO_MEMORY. The call allocates memory.
+ *
+ *     // sub rsp, 0x18; xor eax, eax; ret
+ *     static const uint8_t short_one[] = {0x48, 0x83, 0xec, 0x18, 0x31, 0xc0, 0xc3};
+ *     said = feddurzai_detour_len(64, 0x1000, short_one, sizeof short_one, 0x2000, FEDDURZAI_START_MOVED, 0);
+ *     // said is 27: sub, xor, the longest form of the jump back, a gap of 7 bytes and a slot
+ */
+int32_t feddurzai_detour_len(uint32_t bits, uint64_t ip, const uint8_t *code, size_t len, uint64_t to, uint32_t start,
+    uint32_t rules);
+
+/* What feddurzai_detour_endbr reports. */
+typedef struct feddurzai_kept_report {
+    feddurzai_hook_report hook;         /* the report of the function behind the kept bytes: its offsets count from there, in
+                                           the function and in the trampoline */
+    uint64_t kept;                      /* the number of first bytes of the function that stay, 4 or 0; after a refusal, the
+                                           offset in the function from which the numbers of the refusal count */
+} feddurzai_kept_report;
+
+/*
+ * Makes a hook by rules that keeps an ENDBR64 (64-bit mode) or ENDBR32 (32-bit mode) at the start of the function, so that
+ * calls through pointers keep working under indirect-branch tracking. Write the patch to the function's address plus
+ * report.kept. The trampoline begins with the kept bytes too. A function that begins with none gets the hook of
+ * feddurzai_detour_with, and report.kept is 0.
+ *
+ *  - bits, ip, code, len, to, place, start, rules, entries, entry_count: as in feddurzai_detour_with, of the whole
+ *    function and the whole trampoline.
+ *  - patch, patch_room, moved, moved_room: as in feddurzai_detour_with, counted from behind the kept bytes.
+ *  - trampoline, trampoline_room: receive the trampoline, report.kept + report.hook.detour.bytes bytes.
+ *  - report: receives the report.
+ *
+ * Returns 0, or what feddurzai_detour_with returns; _ENTERED first if control is seen to enter the kept bytes after the first
+ * one, or with FEDDURZAI_START_MOVED to go back to the first one from behind them, unless it is a call.
+ *
+ *     // endbr64; sub rsp, 0x18; xor eax, eax; ret
+ *     static const uint8_t tracked[] = {0xf3, 0x0f, 0x1e, 0xfa, 0x48, 0x83, 0xec, 0x18, 0x31, 0xc0, 0xc3};
+ *     said = feddurzai_detour_endbr(64, 0x1000, tracked, sizeof tracked, 0x2000, 0x3000, FEDDURZAI_START_MOVED, 0, NULL, 0,
+ *         patch, sizeof patch, trampoline, sizeof trampoline, moved, 4, &kept);
+ *     // said is 0 and kept.kept is 4. The patch is jmp 0x2000 and int3, for 0x1004; the trampoline is endbr64, sub, xor and
+ *     // jmp 0x100a
+ */
+int32_t feddurzai_detour_endbr(uint32_t bits, uint64_t ip, const uint8_t *code, size_t len, uint64_t to, uint64_t place,
+    uint32_t start, uint32_t rules, const uint32_t *entries, size_t entry_count, uint8_t *patch, size_t patch_room,
+    uint8_t *trampoline, size_t trampoline_room, feddurzai_moved_start *moved, size_t moved_room,
+    feddurzai_kept_report *report);
+
+/* What feddurzai_detour_padding reports. */
+typedef struct feddurzai_padded_report {
+    feddurzai_hook_report hook;         /* as of feddurzai_detour_with; the form is that of the near jump. _PADDING: `at` is the
+                                           first offset in the padding at which no padding begins; or it is the number of
+                                           its bytes, and `target` how many are needed */
+    uint64_t jump;                      /* the size of the near jump; 0 after a refusal */
+    uint64_t padding;                   /* 1 after a refusal that is about the padding or the near jump, else 0: offsets of
+                                           _ENTERED then count from the first byte of the padding, and _TOO_FAR is the near
+                                           jump's */
+} feddurzai_padded_report;
+
+/*
+ * Makes a hook by rules of a function that is too small for the near jump but has padding in front of it: a near jump over
+ * the last bytes of the padding goes to the replacement, and a short jump of 2 bytes over the first bytes of the function
+ * goes to the near jump. Write the near jump first, to the function's address minus report.jump.
+ *
+ *  - bits, ip, code, len, to, place, start, rules, entries, entry_count: as in feddurzai_detour_with.
+ *  - padding, padding_len: the bytes directly in front of the function. The caller knows that they belong to no function.
+ *  - jump, jump_room: receive the near jump, 5 bytes, or 3 in 16-bit code.
+ *  - patch, patch_room, trampoline, trampoline_room, moved, moved_room: as in feddurzai_detour_with.
+ *  - report: receives the report.
+ *
+ * Returns 0, or FEDDURZAI_BAD_MODE, _BAD_START, _TOO_LARGE; _PADDING (too few bytes; or not all are NOPs of any length and
+ * INT3), _ENTERED (control is seen to go into the padding); the refusals of feddurzai_detour about the bytes that the short
+ * jump takes; _TOO_FAR (the near jump reaches neither the replacement nor, in 64-bit mode, a relay after the trampoline);
+ * and then what feddurzai_detour_with returns, _OVERLAPS also for a trampoline in the padding. The call allocates memory.
+ *
+ *     // five bytes of padding; then mov eax, edi; ret
+ *     static const uint8_t small_one[] = {0xcc, 0xcc, 0xcc, 0xcc, 0xcc, 0x89, 0xf8, 0xc3};
+ *     said = feddurzai_detour_padding(64, 0x1000, small_one, 5, small_one + 5, 3, 0x2000, 0x3000, FEDDURZAI_START_MOVED, 0,
+ *         NULL, 0, jump, sizeof jump, patch, sizeof patch, trampoline, sizeof trampoline, moved, 4, &padded);
+ *     // said is 0. The near jump is jmp 0x2000, for 0xffb; the patch is jmp short 0xffb; the trampoline is mov and jmp 0x1002
+ */
+int32_t feddurzai_detour_padding(uint32_t bits, uint64_t ip, const uint8_t *padding, size_t padding_len, const uint8_t *code,
+    size_t len, uint64_t to, uint64_t place, uint32_t start, uint32_t rules, const uint32_t *entries, size_t entry_count,
+    uint8_t *jump, size_t jump_room, uint8_t *patch, size_t patch_room, uint8_t *trampoline, size_t trampoline_room,
+    feddurzai_moved_start *moved, size_t moved_room, feddurzai_padded_report *report);
+
 /* ---- null pointers ----------------------------------------------------------------------------------------- */
 
 /*
@@ -1864,6 +1959,43 @@ static inline int32_t feddurzai_checked_detour_with(uint32_t bits, uint64_t ip, 
         trampoline, trampoline_room, moved, moved_room, report);
 }
 
+static inline int32_t feddurzai_checked_detour_len(uint32_t bits, uint64_t ip, const uint8_t *code, size_t len, uint64_t to,
+    uint32_t start, uint32_t rules)
+{
+    if (feddurzai_is_null(code, len))
+        return FEDDURZAI_NULL;
+    return feddurzai_detour_len(bits, ip, code, len, to, start, rules);
+}
+
+static inline int32_t feddurzai_checked_detour_endbr(uint32_t bits, uint64_t ip, const uint8_t *code, size_t len,
+    uint64_t to, uint64_t place, uint32_t start, uint32_t rules, const uint32_t *entries, size_t entry_count,
+    uint8_t *patch, size_t patch_room, uint8_t *trampoline, size_t trampoline_room, feddurzai_moved_start *moved,
+    size_t moved_room, feddurzai_kept_report *report)
+{
+    if (feddurzai_is_null(code, len) || feddurzai_is_null(entries, entry_count) || feddurzai_is_null(patch, patch_room))
+        return FEDDURZAI_NULL;
+    if (feddurzai_is_null(trampoline, trampoline_room) || feddurzai_is_null(moved, moved_room) || report == NULL)
+        return FEDDURZAI_NULL;
+    return feddurzai_detour_endbr(bits, ip, code, len, to, place, start, rules, entries, entry_count, patch, patch_room,
+        trampoline, trampoline_room, moved, moved_room, report);
+}
+
+static inline int32_t feddurzai_checked_detour_padding(uint32_t bits, uint64_t ip, const uint8_t *padding,
+    size_t padding_len, const uint8_t *code, size_t len, uint64_t to, uint64_t place, uint32_t start, uint32_t rules,
+    const uint32_t *entries, size_t entry_count, uint8_t *jump, size_t jump_room, uint8_t *patch, size_t patch_room,
+    uint8_t *trampoline, size_t trampoline_room, feddurzai_moved_start *moved, size_t moved_room,
+    feddurzai_padded_report *report)
+{
+    if (feddurzai_is_null(padding, padding_len) || feddurzai_is_null(code, len) || feddurzai_is_null(entries, entry_count))
+        return FEDDURZAI_NULL;
+    if (feddurzai_is_null(jump, jump_room) || feddurzai_is_null(patch, patch_room) || report == NULL)
+        return FEDDURZAI_NULL;
+    if (feddurzai_is_null(trampoline, trampoline_room) || feddurzai_is_null(moved, moved_room))
+        return FEDDURZAI_NULL;
+    return feddurzai_detour_padding(bits, ip, padding, padding_len, code, len, to, place, start, rules, entries, entry_count,
+        jump, jump_room, patch, patch_room, trampoline, trampoline_room, moved, moved_room, report);
+}
+
 #define feddurzai_decode feddurzai_checked_decode
 #define feddurzai_decode_many feddurzai_checked_decode_many
 #define feddurzai_offsets feddurzai_checked_offsets
@@ -1901,6 +2033,9 @@ static inline int32_t feddurzai_checked_detour_with(uint32_t bits, uint64_t ip, 
 #define feddurzai_detour feddurzai_checked_detour
 #define feddurzai_look feddurzai_checked_look
 #define feddurzai_detour_with feddurzai_checked_detour_with
+#define feddurzai_detour_len feddurzai_checked_detour_len
+#define feddurzai_detour_endbr feddurzai_checked_detour_endbr
+#define feddurzai_detour_padding feddurzai_checked_detour_padding
 
 #ifdef __cplusplus
 }

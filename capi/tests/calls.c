@@ -114,6 +114,11 @@ static void check_layout(void)
     CHECK(offsetof(feddurzai_hook_report, call), 128);
     CHECK(offsetof(feddurzai_hook_report, view), 64);
     CHECK(offsetof(feddurzai_hook_report, moved), 120);
+    CHECK(sizeof(feddurzai_kept_report), 144);
+    CHECK(offsetof(feddurzai_kept_report, kept), 136);
+    CHECK(sizeof(feddurzai_padded_report), 152);
+    CHECK(offsetof(feddurzai_padded_report, jump), 136);
+    CHECK(offsetof(feddurzai_padded_report, padding), 144);
 }
 
 /* what the crate puts into each field stands where the header says */
@@ -1567,6 +1572,108 @@ static void check_ruled_detours(void)
     free(d);
 }
 
+/* a hook behind an ENDBR: cmp byte [rdi], 0; je to the end; inc rdi; a jump back; ret */
+static void check_kept_detours(void)
+{
+    static const uint8_t to_first[] = {0xf3, 0x0f, 0x1e, 0xfa, 0x80, 0x3f, 0x00, 0x74, 0x05, 0x48, 0xff, 0xc7, 0xeb, 0xf2, 0xc3};
+    static const uint8_t to_fifth[] = {0xf3, 0x0f, 0x1e, 0xfa, 0x80, 0x3f, 0x00, 0x74, 0x05, 0x48, 0xff, 0xc7, 0xeb, 0xf6, 0xc3};
+    static const uint8_t plain[] = {0x48, 0x83, 0xec, 0x18, 0x31, 0xc0, 0xc3};
+    /* mov eax, edi; int3: too short for the jump behind the ENDBR */
+    static const uint8_t small[] = {0xf3, 0x0f, 0x1e, 0xfb, 0x89, 0xf8, 0xc3};
+    static const uint32_t within[] = {14, 2};
+    uint8_t *patch = malloc(FEDDURZAI_MAX_PATCH), *out = malloc(64);
+    feddurzai_moved_start *moved = malloc(4 * sizeof *moved);
+    feddurzai_kept_report *r = malloc(sizeof *r);
+#define KEPT(bits, code, start, rules, entries, count) \
+    feddurzai_detour_endbr(bits, 0x1000, code, sizeof code, 0x2000, 0x3000, start, rules, entries, count, patch, FEDDURZAI_MAX_PATCH, out, \
+        64, moved, 4, r)
+    memset(out, 0xaa, 64);
+    CHECK(KEPT(17, plain, 9, 0, NULL, 0), FEDDURZAI_BAD_MODE);
+    CHECK(KEPT(64, plain, 0, 8, NULL, 0), FEDDURZAI_BAD_START);
+    /* the loop goes back to the ENDBR, and then into the patch */
+    CHECK(KEPT(64, to_first, FEDDURZAI_START_MOVED, 0, NULL, 0), FEDDURZAI_ENTERED);
+    CHECK(r->hook.detour.at == 12 && r->hook.detour.target == 0 && r->kept == 0, 1);
+    CHECK(is_untouched(out, 64), 1);
+    CHECK(KEPT(64, to_first, FEDDURZAI_START_HOOKED, FEDDURZAI_RULE_WHOLE, NULL, 0), 0);
+    CHECK(r->kept == 4 && r->hook.detour.taken == 5 && r->hook.moved == 2 && moved[1].start == 3, 1);
+    CHECK(memcmp(patch, "\xe9\xf7\x0f\x00\x00", 5), 0);
+    CHECK(memcmp(out, to_first, 7), 0);
+    /* it goes back to the byte behind it: the offsets count from there */
+    CHECK(KEPT(64, to_fifth, FEDDURZAI_START_MOVED, 0, NULL, 0), FEDDURZAI_ENTERED);
+    CHECK(r->hook.detour.at == 8 && r->hook.detour.target == 0 && r->kept == 4, 1);
+    /* an entry within the ENDBR */
+    CHECK(KEPT(64, to_fifth, FEDDURZAI_START_HOOKED, 0, within, 2), FEDDURZAI_ENTERED);
+    CHECK(r->hook.detour.at == 2 && r->hook.detour.target == 2 && r->kept == 0, 1);
+    CHECK(KEPT(32, small, FEDDURZAI_START_MOVED, 0, NULL, 0), FEDDURZAI_SMALL);
+    CHECK(r->hook.detour.at == 3 && r->hook.detour.target == 5 && r->kept == 4, 1);
+    /* without one, and one of another mode, the hook is that of the function */
+    CHECK(KEPT(64, plain, FEDDURZAI_START_MOVED, 0, NULL, 0), 0);
+    CHECK(r->kept == 0 && r->hook.detour.taken == 6 && r->hook.detour.bytes == 11, 1);
+    CHECK(KEPT(32, to_first, FEDDURZAI_START_HOOKED, 0, NULL, 0), 0);
+    CHECK(r->kept == 0 && r->hook.detour.taken == 7, 1);
+#undef KEPT
+    free(patch);
+    free(out);
+    free(moved);
+    free(r);
+}
+
+/* a hook through padding */
+static void check_padded_detours(void)
+{
+    static const uint8_t padding[] = {0x90, 0xcc, 0xcc, 0x66, 0x90, 0xcc, 0xcc, 0xcc}, code[] = {0xcc, 0xcc, 0x31, 0xc0, 0xcc, 0xcc, 0xcc};
+    /* mov eax, edi; ret; and mov eax, edi; jmp into the padding */
+    static const uint8_t small[] = {0x89, 0xf8, 0xc3}, entering[] = {0x89, 0xf8, 0xeb, 0xf9};
+    uint8_t *jump = malloc(5), *patch = malloc(FEDDURZAI_MAX_PATCH), *out = malloc(64);
+    feddurzai_moved_start *moved = malloc(4 * sizeof *moved);
+    feddurzai_padded_report *r = malloc(sizeof *r);
+#define PADDED(padding, len, code, count, to, place) \
+    feddurzai_detour_padding(64, 0x1000, padding, len, code, count, to, place, FEDDURZAI_START_MOVED, 0, NULL, 0, jump, 5, patch, \
+        FEDDURZAI_MAX_PATCH, out, 64, moved, 4, r)
+    CHECK(feddurzai_detour_padding(17, 0, padding, 8, small, 3, 0, 0, 0, 0, NULL, 0, jump, 5, patch, 28, out, 64, moved, 4, r), FEDDURZAI_BAD_MODE);
+    CHECK(PADDED(padding, sizeof padding, small, 3, 0x2000, 0x3000), 0);
+    CHECK(r->jump == 5 && r->padding == 0 && r->hook.detour.form == FEDDURZAI_DETOUR_NEAR && r->hook.detour.taken == 2, 1);
+    CHECK(memcmp(jump, "\xe9\x00\x10\x00\x00", 5) | memcmp(patch, "\xeb\xf9", 2) | memcmp(out, "\x89\xf8\xe9\xfb\xdf\xff\xff", 7), 0);
+    CHECK(feddurzai_detour_padding(64, 0x1000, padding, 8, small, 3, 0x2000, 0x3000, 0, 0, NULL, 0, jump, 4, patch, 28, out, 64, moved, 4, r),
+        FEDDURZAI_NO_ROOM);
+    CHECK(r->jump == 5 && r->hook.detour.bytes == 7 && r->hook.moved == 1, 1);
+    /* by a relay behind the trampoline, and out of reach */
+    CHECK(PADDED(padding, sizeof padding, small, 3, 0x7fff00000000, 0x3000), 0);
+    CHECK(r->hook.detour.form == FEDDURZAI_DETOUR_RELAY && r->hook.detour.relay_at == 7 && r->hook.detour.bytes == 21, 1);
+    CHECK(PADDED(padding, sizeof padding, small, 3, 0x7fff00000000, 0x7ffe00000000), FEDDURZAI_TOO_FAR);
+    CHECK(r->padding == 1 && r->jump == 0 && r->hook.detour.at == 0, 1);
+    /* too little padding, other code, control into it, and a function without two bytes */
+    CHECK(PADDED(padding, 4, small, 3, 0x2000, 0x3000), FEDDURZAI_PADDING);
+    CHECK(r->padding == 1 && r->hook.detour.at == 4 && r->hook.detour.target == 5, 1);
+    CHECK(PADDED(code, sizeof code, small, 3, 0x2000, 0x3000), FEDDURZAI_PADDING);
+    CHECK(r->padding == 1 && r->hook.detour.at == 2 && r->hook.detour.target == 0, 1);
+    CHECK(PADDED(padding, sizeof padding, entering, 4, 0x2000, 0x3000), FEDDURZAI_ENTERED);
+    CHECK(r->padding == 1 && r->hook.detour.at == 10 && r->hook.detour.target == 5, 1);
+    CHECK(PADDED(padding, sizeof padding, small + 2, 1, 0x2000, 0x3000), FEDDURZAI_SMALL);
+    CHECK(r->padding == 0 && r->hook.detour.at == 1 && r->hook.detour.target == 2, 1);
+    /* the trampoline in the padding */
+    CHECK(PADDED(padding, sizeof padding, small, 3, 0x2000, 0xff4), FEDDURZAI_OVERLAPS);
+    CHECK(r->padding, 1);
+#undef PADDED
+    free(jump);
+    free(patch);
+    free(out);
+    free(moved);
+    free(r);
+}
+
+/* lengths of trampolines: of mov eax, edi; ret and of sub rsp, 0x18; xor eax, eax; ret */
+static void check_detour_lengths(void)
+{
+    static const uint8_t small[] = {0x89, 0xf8, 0xc3}, plain[] = {0x48, 0x83, 0xec, 0x18, 0x31, 0xc0, 0xc3};
+    CHECK(feddurzai_detour_len(17, 0, plain, 7, 0, 0, 0), FEDDURZAI_BAD_MODE);
+    CHECK(feddurzai_detour_len(64, 0, plain, 7, 0, 2, 0), FEDDURZAI_BAD_START);
+    CHECK(feddurzai_detour_len(64, 0, small, 3, 0x2000, 0, 0), 0);
+    CHECK(feddurzai_detour_len(64, 0x1000, plain, 7, 0x2000, 0, 0), 27);
+    CHECK(feddurzai_detour_len(64, 0x1000, plain, 7, 0x7fff00000000, 0, 0), 41);
+    CHECK(feddurzai_detour_len(32, 0x1000, plain + 4, 3, 0x2000, 0, 0), 0);
+}
+
 int main(void)
 {
     CHECK(feddurzai_interface(), FEDDURZAI_INTERFACE);
@@ -1593,6 +1700,9 @@ int main(void)
     check_code();
     check_detours();
     check_ruled_detours();
+    check_kept_detours();
+    check_padded_detours();
+    check_detour_lengths();
     printf("%d calls and fields, %d wrong\n", tests, failures);
     return failures != 0;
 }

@@ -508,6 +508,43 @@ def hooks_are_made_by_rules():
     raised(TypeError, f.detour, 64, 0, loop, 0, 0, entries=["0"])
 
 
+def hooks_take_other_forms():
+    # endbr64; cmp byte [rdi], 0; je to the end; inc rdi; a jump back to the first byte, or to the one behind the ENDBR; ret
+    to_first, to_fifth = code("f30f1efa 803f00 7405 48ffc7 ebf2 c3"), code("f30f1efa 803f00 7405 48ffc7 ebf6 c3")
+    entered = refused(f.Reason.ENTERED, f.detour, 64, 0x1000, to_first, 0x2000, 0x3000, keep_endbr=True)
+    check((entered.report.at, entered.report.target), (12, 0))
+    entered = refused(f.Reason.ENTERED, f.detour, 64, 0x1000, to_fifth, 0x2000, 0x3000, keep_endbr=True)
+    check((entered.report.at, entered.report.target), (12, 4))
+    kept = f.detour(64, 0x1000, to_first, 0x2000, 0x3000, f.Start.HOOKED, whole=True, keep_endbr=True)
+    check((kept.kept, kept.patch, kept.trampoline[:7]), (4, code("e9f70f0000"), to_first[:7]))
+    check((kept.moved, kept.view.sight), ((f.MovedStart(4, 4), f.MovedStart(7, 7)), f.Sight.WHOLE))
+    check(kept.writes, ((4, b"\xcc"), (5, kept.patch[1:]), (4, b"\xe9")))
+    copy = pickle.loads(pickle.dumps(kept))
+    check((copy, copy.kept, copy.moved), (kept, 4, kept.moved))
+    inside = refused(f.Reason.ENTERED, f.detour, 64, 0x1000, to_fifth, 0x2000, 0x3000, f.Start.HOOKED, entries=[14, 2], keep_endbr=True)
+    check((inside.report.at, inside.report.target), (2, 2))
+    # sub rsp, 0x18; xor eax, eax; ret: no ENDBR
+    plain = code("4883ec18 31c0 c3")
+    check(f.detour(64, 0x1000, plain, 0x2000, 0x3000, keep_endbr=True).kept, 0)
+    # mov eax, edi; ret, behind NOPs and INT3
+    small, padding = code("89f8 c3"), code("90 cccc 6690 cccccc")
+    made = f.detour(64, 0x1000, small, 0x2000, 0x3000, padding=padding)
+    check((made.jump, made.patch, made.trampoline), (code("e900100000"), code("ebf9"), code("89f8 e9fbdfffff")))
+    check((made.form, f.detour(64, 0x1000, small, 0x7FFF00000000, 0x3000, padding=padding).form), (f.DetourForm.NEAR, f.DetourForm.RELAY))
+    short = refused(f.Reason.PADDING, f.detour, 64, 0x1000, small, 0x2000, 0x3000, padding=padding[4:])
+    check(str(short), "the padding in front of the function cannot be used: it has 4 bytes, the jump 5")
+    other = refused(f.Reason.PADDING, f.detour, 64, 0x1000, small, 0x2000, 0x3000, padding=code("cccc 31c0 cccccc"))
+    check(str(other), "the padding in front of the function cannot be used: at offset 2")
+    entered = refused(f.Reason.ENTERED, f.detour, 64, 0x1000, code("89f8 ebf9"), 0x2000, 0x3000, padding=padding)
+    check((entered.report.at, entered.report.target), (10, 5))
+    refused(f.Reason.TOO_FAR, f.detour, 64, 0x1000, small, 0x7FFF00000000, 0x7FFE00000000, padding=padding)
+    refused(f.Reason.SMALL, f.detour, 64, 0x1000, b"\xc3", 0x2000, 0x3000, padding=padding)
+    refused(f.Reason.OVERLAPS, f.detour, 64, 0x1000, small, 0x2000, 0xFF4, padding=padding)
+    raised(ValueError, f.detour, 64, 0, small, 0, 0, padding=padding, keep_endbr=True)
+    check([f.detour_len(64, 0x1000, each, to) for each in (small, plain) for to in (0x2000, 0x7FFF00000000)], [0, 0, 27, 41])
+    refused(f.Reason.BAD_MODE, f.detour_len, 17, 0, small, 0)
+
+
 def refusals_say_why():
     mov = f.decode(64, 0x1000, code("48895c2410"))
     refused(f.Reason.BAD_MODE, f.decode, 17, 0, b"\x90")
@@ -722,6 +759,7 @@ for test in (
     moved_and_followed,
     hooks_are_made,
     hooks_are_made_by_rules,
+    hooks_take_other_forms,
     refusals_say_why,
     encodings_say_their_cause,
     values_are_looked_at_first,

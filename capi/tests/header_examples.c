@@ -315,6 +315,43 @@ static void hooked_by_rules(void)
     CHECK(moved[1].start << 8 | moved[1].place, 3 << 8 | 3);
 }
 
+static void hooked_in_other_forms(void)
+{
+    static const uint8_t whole_trampoline[] = {0xf3, 0x0f, 0x1e, 0xfa, 0x48, 0x83, 0xec, 0x18, 0x31, 0xc0, 0xe9, 0xfb, 0xdf, 0xff, 0xff};
+    feddurzai_kept_report kept;
+    feddurzai_padded_report padded;
+    feddurzai_moved_start moved[4];
+    uint8_t jump[5];
+    // sub rsp, 0x18; xor eax, eax; ret
+    static const uint8_t short_one[] = {0x48, 0x83, 0xec, 0x18, 0x31, 0xc0, 0xc3};
+    said = feddurzai_detour_len(64, 0x1000, short_one, sizeof short_one, 0x2000, FEDDURZAI_START_MOVED, 0);
+    // said is 27: sub, xor, the longest form of the jump back, a gap of 7 bytes and a slot
+    CHECK(said, 27);
+
+    // endbr64; sub rsp, 0x18; xor eax, eax; ret
+    static const uint8_t tracked[] = {0xf3, 0x0f, 0x1e, 0xfa, 0x48, 0x83, 0xec, 0x18, 0x31, 0xc0, 0xc3};
+    said = feddurzai_detour_endbr(64, 0x1000, tracked, sizeof tracked, 0x2000, 0x3000, FEDDURZAI_START_MOVED, 0, NULL, 0,
+        patch, sizeof patch, trampoline, sizeof trampoline, moved, 4, &kept);
+    // said is 0 and kept.kept is 4. The patch is jmp 0x2000 and int3, for 0x1004; the trampoline is endbr64, sub, xor and
+    // jmp 0x100a
+    CHECK(said, 0);
+    CHECK(kept.kept, 4);
+    CHECK(kept.hook.detour.taken << 8 | kept.hook.detour.bytes, 6 << 8 | 11);
+    CHECK(memcmp(patch, "\xe9\xf7\x0f\x00\x00\xcc", 6), 0);
+    CHECK(memcmp(trampoline, whole_trampoline, sizeof whole_trampoline), 0);
+
+    // five bytes of padding; then mov eax, edi; ret
+    static const uint8_t small_one[] = {0xcc, 0xcc, 0xcc, 0xcc, 0xcc, 0x89, 0xf8, 0xc3};
+    said = feddurzai_detour_padding(64, 0x1000, small_one, 5, small_one + 5, 3, 0x2000, 0x3000, FEDDURZAI_START_MOVED, 0,
+        NULL, 0, jump, sizeof jump, patch, sizeof patch, trampoline, sizeof trampoline, moved, 4, &padded);
+    // said is 0. The near jump is jmp 0x2000, for 0xffb; the patch is jmp short 0xffb; the trampoline is mov and jmp 0x1002
+    CHECK(said, 0);
+    CHECK(padded.jump << 8 | padded.hook.detour.taken, 5 << 8 | 2);
+    CHECK(memcmp(jump, "\xe9\x00\x10\x00\x00", 5), 0);
+    CHECK(memcmp(patch, "\xeb\xf9", 2), 0);
+    CHECK(memcmp(trampoline, "\x89\xf8\xe9\xfb\xdf\xff\xff", 7), 0);
+}
+
 int main(void)
 {
     CHECK(versions(), 0);
@@ -332,6 +369,7 @@ int main(void)
     hooked();
     looked();
     hooked_by_rules();
+    hooked_in_other_forms();
     printf("%d checks of the header's examples, %d failed\n", tests, failures);
     return failures != 0;
 }

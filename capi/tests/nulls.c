@@ -37,6 +37,8 @@ static feddurzai_live live[2];
 static uint64_t place;
 static feddurzai_detour_report detour;
 static feddurzai_hook_report hook;
+static feddurzai_kept_report kept;
+static feddurzai_padded_report padded;
 static feddurzai_moved_start moved[2];
 static feddurzai_step_report step;
 static uint32_t starts[3], leaders[3];
@@ -61,6 +63,8 @@ static void fill(void)
     memset(&place, 0xaa, sizeof place);
     memset(&detour, 0xaa, sizeof detour);
     memset(&hook, 0xaa, sizeof hook);
+    memset(&kept, 0xaa, sizeof kept);
+    memset(&padded, 0xaa, sizeof padded);
     memset(moved, 0xaa, sizeof moved);
     memset(&step, 0xaa, sizeof step);
     memset(starts, 0xaa, sizeof starts);
@@ -80,7 +84,7 @@ static int nothing_was_written(void)
         && is_untouched(&blocks_report, sizeof blocks_report) && is_untouched(places, sizeof places)
         && is_untouched(&region, sizeof region) && is_untouched(live, sizeof live) && is_untouched(&place, sizeof place)
         && is_untouched(&detour, sizeof detour) && is_untouched(&hook, sizeof hook) && is_untouched(moved, sizeof moved)
-        && is_untouched(&step, sizeof step)
+        && is_untouched(&kept, sizeof kept) && is_untouched(&padded, sizeof padded) && is_untouched(&step, sizeof step)
         && is_untouched(starts, sizeof starts) && is_untouched(leaders, sizeof leaders) && is_untouched(kinds, sizeof kinds)
         && is_untouched(&access, sizeof access)
         && is_untouched(&count, sizeof count) && is_untouched(out, sizeof out) && is_untouched(patch, sizeof patch)
@@ -210,6 +214,28 @@ static void check_nulls(void)
     CHECK(DETOUR(small, firsts, patch, out, moved, NULL), FEDDURZAI_NULL);
 #undef DETOUR
     CHECK(feddurzai_detour_with(64, 0, NULL, 0, 0, 0, 0, 0, NULL, 0, NULL, 0, NULL, 0, NULL, 0, NULL), FEDDURZAI_NULL);
+    CHECK(feddurzai_detour_len(64, 0, NULL, 7, 0x2000, 0, 0), FEDDURZAI_NULL);
+#define KEPT(code, entries, patch, out, moved, kept) \
+    feddurzai_detour_endbr(64, 0, code, 7, 0x2000, 0x3000, 0, 0, entries, 2, patch, 6, out, SPARE, moved, 2, kept)
+    CHECK(KEPT(NULL, firsts, patch, out, moved, &kept), FEDDURZAI_NULL);
+    CHECK(KEPT(small, NULL, patch, out, moved, &kept), FEDDURZAI_NULL);
+    CHECK(KEPT(small, firsts, NULL, out, moved, &kept), FEDDURZAI_NULL);
+    CHECK(KEPT(small, firsts, patch, NULL, moved, &kept), FEDDURZAI_NULL);
+    CHECK(KEPT(small, firsts, patch, out, NULL, &kept), FEDDURZAI_NULL);
+    CHECK(KEPT(small, firsts, patch, out, moved, NULL), FEDDURZAI_NULL);
+#undef KEPT
+#define PADDED(padding, code, entries, jump, patch, out, moved, padded) \
+    feddurzai_detour_padding(64, 0x1000, padding, 5, code, 7, 0x2000, 0x3000, 0, 0, entries, 2, jump, 5, patch, 6, out, SPARE, moved, \
+        2, padded)
+    CHECK(PADDED(NULL, small, firsts, out, patch, out, moved, &padded), FEDDURZAI_NULL);
+    CHECK(PADDED(small, NULL, firsts, out, patch, out, moved, &padded), FEDDURZAI_NULL);
+    CHECK(PADDED(small, small, NULL, out, patch, out, moved, &padded), FEDDURZAI_NULL);
+    CHECK(PADDED(small, small, firsts, NULL, patch, out, moved, &padded), FEDDURZAI_NULL);
+    CHECK(PADDED(small, small, firsts, out, NULL, out, moved, &padded), FEDDURZAI_NULL);
+    CHECK(PADDED(small, small, firsts, out, patch, NULL, moved, &padded), FEDDURZAI_NULL);
+    CHECK(PADDED(small, small, firsts, out, patch, out, NULL, &padded), FEDDURZAI_NULL);
+    CHECK(PADDED(small, small, firsts, out, patch, out, moved, NULL), FEDDURZAI_NULL);
+#undef PADDED
 
     CHECK(feddurzai_flow(64, 0, NULL, 4, starts, 3, leaders, 3), FEDDURZAI_NULL);
     CHECK(feddurzai_flow(64, 0, code, 4, NULL, 3, leaders, 3), FEDDURZAI_NULL);

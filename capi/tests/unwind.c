@@ -164,6 +164,8 @@ static void works(void)
     feddurzai_detour_report detour;
     feddurzai_view view;
     feddurzai_hook_report hook;
+    feddurzai_kept_report kept;
+    feddurzai_padded_report padded;
     feddurzai_moved_start begins[16];
     feddurzai_byte_offsets parts;
     feddurzai_about about;
@@ -187,6 +189,11 @@ static void works(void)
     CALL(feddurzai_look, 64, 0x401000, P(code), SIZE, P(entries), 2, 8, P(entries), 1, FEDDURZAI_START_CLOSED, P(&view));
     CALL(feddurzai_detour_with, 64, 0x401000, P(code), SIZE, 0x7fff00000000, 0x500000, FEDDURZAI_START_MOVED, 0, P(entries), 2,
         P(patch), sizeof patch, P(out), sizeof out, P(begins), 16, P(&hook));
+    CALL(feddurzai_detour_endbr, 64, 0x401000, P(code), SIZE, 0x7fff00000000, 0x500000, FEDDURZAI_START_MOVED, 0, P(entries), 2,
+        P(patch), sizeof patch, P(out), sizeof out, P(begins), 16, P(&kept));
+    CALL(feddurzai_detour_padding, 64, 0x401000, P("\xcc\xcc\xcc\xcc\xcc"), 5, P(code), SIZE, 0x7fff00000000, 0x500000,
+        FEDDURZAI_START_MOVED, 0, P(entries), 2, P(out), 5, P(patch), sizeof patch, P(out + 8), sizeof out - 8, P(begins), 16, P(&padded));
+    CALL(feddurzai_detour_len, 64, 0x401000, P(code), SIZE, 0x7fff00000000, FEDDURZAI_START_MOVED, 0);
     CALL(feddurzai_region_reserve, P(&region), P(live), 4, FEDDURZAI_MAX_STEP, P(&place));
     len = CALL(feddurzai_step, 64, 0x401000, P(code + 19), 5, place, P(out), sizeof out, P(&stepped));
     if (len > 0)

@@ -49,7 +49,7 @@ from ._calls import (
     version,
 )
 from ._codes import Code
-from ._detours import Detour, MovedStart, detour
+from ._detours import Detour, MovedStart, detour, detour_len
 from ._effects import Effects, MemoryUse, RegisterUse
 from ._items import BadByte, Instr, Item, Rest
 from ._native import INTERFACE, MAX_CODE, MAX_FLOW, MAX_STEP
@@ -157,6 +157,7 @@ __all__ = [
     "codes_of",
     "decode",
     "detour",
+    "detour_len",
     "effects",
     "encode",
     "encoded_len",

@@ -7,7 +7,7 @@ import os
 from typing import Any, Callable, List, Tuple, Type
 
 # the interface of the header for which this package is written
-INTERFACE = 7
+INTERFACE = 8
 
 MAX_LEN = 15
 MAX_JUMP = 16
@@ -136,6 +136,15 @@ detour = _call(_long, "detour", _u32, _u64, _at, _size, _u64, _u64, _u32, _at, _
 detour_with = _call(
     *(_long, "detour_with", _u32, _u64, _at, _size, _u64, _u64, _u32, _u32, _at, _size),
     *(_at, _size, _at, _size, _at, _size, _at),
+)
+detour_len = _call(_long, "detour_len", _u32, _u64, _at, _size, _u64, _u32, _u32)
+detour_endbr = _call(
+    *(_long, "detour_endbr", _u32, _u64, _at, _size, _u64, _u64, _u32, _u32, _at, _size),
+    *(_at, _size, _at, _size, _at, _size, _at),
+)
+detour_padding = _call(
+    *(_long, "detour_padding", _u32, _u64, _at, _size, _at, _size, _u64, _u64, _u32, _u32, _at, _size),
+    *(_at, _size, _at, _size, _at, _size, _at, _size, _at),
 )
 flow_from = _call(_long, "flow_from", _u32, _u64, _at, _size, _at, _size, _at, _size, _at, _size, _at, _size)
 flow_unlisted = _call(_long, "flow_unlisted", _u32, _u64, _at, _size, _at, _size, _at, _size, _at, _size, _at, _size)

@@ -367,6 +367,7 @@ class Reason(Named):
     UNSEEN = -28
     OVERLAPS = -29
     CALLS = -30
+    PADDING = -31
     NO_ENCODING = -256
 
 

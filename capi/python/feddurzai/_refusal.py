@@ -38,6 +38,7 @@ _REASONS = {
     Reason.UNSEEN: "control cannot be followed through the whole function",
     Reason.OVERLAPS: "the trampoline would lie in the bytes of the function",
     Reason.CALLS: "a moved call would hand an address in the trampoline to what it calls",
+    Reason.PADDING: "the padding in front of the function cannot be used",
 }
 _SIGHT_ENDS = {
     Sight.NOT_READ: "no instruction of the table begins",
@@ -86,8 +87,8 @@ class DetourReport:
     `taken` is the size of the patch and `bytes` that of the trampoline; `jump_back`, `slots_at` and `relay_at` are offsets in the trampoline,
     `bytes` for an absent part; `form` is a `DetourForm`. After a refusal `at` and `target` say where: the offset of a byte, the sizes of the
     function and of the jump (SMALL), the offsets that control comes from and goes to (ENTERED), the number of an instruction and its
-    target (TOO_FAR), the offset of a call (CALLS), or the offset at which sight ends and the `Sight` that says why (UNSEEN). Fields that do not
-    apply are 0.
+    target (TOO_FAR), the offset of a call (CALLS), the offset at which sight ends and the `Sight` that says why (UNSEEN), or the offset at which
+    no padding begins, or the sizes of the padding and of the jump (PADDING). Fields that do not apply are 0.
 
     >>> detour(64, 0x1000, bytes.fromhex("4883ec18 31c0 c3"), 0x2000, 0x3000).report.taken
     6
@@ -232,6 +233,8 @@ def _where(reason: Reason, report: Optional[Report]) -> str:
         return f": from offset {report.at}, to offset {address}"
     if reason is Reason.CALLS:
         return f": at offset {report.at}"
+    if reason is Reason.PADDING:
+        return f": it has {report.at} bytes, the jump {address}" if address else f": at offset {report.at}"
     if reason is Reason.UNSEEN:
         return f": at offset {report.at} {_SIGHT_ENDS[Sight(address)]}"
     return ""

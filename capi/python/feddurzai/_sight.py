@@ -44,6 +44,18 @@ class View(NamedTuple):
     suspect: Optional[Passage]
 
 
+def shifted(view: View, by: int) -> View:
+    """The view with its offsets counted from a byte that lies so many bytes before the one from which they count."""
+
+    def both(passage: Optional[Passage]) -> Optional[Passage]:
+        return None if passage is None else Passage(passage.start + by, passage.target + by)
+
+    def one(offset: Optional[int]) -> Optional[int]:
+        return None if offset is None else offset + by
+
+    return View(view.sight, one(view.sight_at), both(view.entered), one(view.inside), both(view.suspect))
+
+
 def look(
     bits: int, ip: int, code: Buffer, taken_bytes: int, moved: Iterable[int], entries: Iterable[int] = (), start: int = StartRule.CLOSED
 ) -> View:

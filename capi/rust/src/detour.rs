@@ -147,6 +147,51 @@ pub struct SeenDetour {
     pub call: Option<u64>,
 }
 
+/// A detour that keeps an ENDBR at the start of the function, as [`Detour::keeping_endbr`] makes it.
+#[derive(Clone, Debug, PartialEq, Eq)]
+#[non_exhaustive]
+pub struct KeptDetour {
+    /// How many first bytes of the function stay, 4 or 0. The patch is for the byte behind them.
+    pub kept: u64,
+    /// The bytes to write to the place of the trampoline: the kept bytes, and the trampoline of `seen`.
+    pub trampoline: Vec<u8>,
+    /// The detour of the function behind the kept bytes, and what was seen. Its offsets count from there.
+    pub seen: SeenDetour,
+}
+
+/// A detour through padding, as [`Detour::through_padding`] makes it.
+#[derive(Clone, Debug, PartialEq, Eq)]
+#[non_exhaustive]
+pub struct PaddedDetour {
+    /// The near jump: write it first, over the last bytes of the padding.
+    pub jump: Vec<u8>,
+    /// The detour by the short jump to it, and what was seen.
+    pub seen: SeenDetour,
+}
+
+/// The number of the rules for the library.
+fn rule_bits(rules: &DetourRules<'_>) -> u32 {
+    u32::from(rules.whole) + 2 * u32::from(rules.returns) + 4 * u32::from(rules.no_calls)
+}
+
+impl SeenDetour {
+    /// What was made and seen, by the report; the list of moved instructions may be longer.
+    fn of(
+        patch: Vec<u8>,
+        trampoline: Vec<u8>,
+        mut moved: Vec<sys::MovedStart>,
+        report: &sys::HookReport,
+    ) -> Result<SeenDetour, Error> {
+        moved.truncate(size_of(report.moved)?);
+        Ok(SeenDetour {
+            detour: Detour::of(patch, trampoline, &report.detour)?,
+            moved: moved.iter().map(|one| MovedStart { start: one.start, place: one.place }).collect(),
+            view: View::of(&report.view),
+            call: Some(report.call).filter(|&at| at < report.detour.taken),
+        })
+    }
+}
+
 impl Detour {
     /// Makes a hook of the function at `ip` whose bytes from the first are `code`, at most 1 MiB. `to` is the address of
     /// the replacement, and `place` the address at which the trampoline will be placed. Within 2 gigabytes of the function
@@ -213,7 +258,7 @@ impl Detour {
         // a patch has at most MAX_PATCH bytes, and moves no more instructions
         let (mut patch, mut moved) = (vec![0; MAX_PATCH], vec![sys::MovedStart::ZERO; MAX_PATCH]);
         let mut trampoline = Vec::new();
-        let rule_bits = u32::from(rules.whole) + 2 * u32::from(rules.returns) + 4 * u32::from(rules.no_calls);
+        let rule_bits = rule_bits(&rules);
         let mut report = sys::HookReport::default();
         let mut call = |trampoline: &mut [u8], report: &mut sys::HookReport| {
             let out = HookOut { patch: &mut patch, trampoline, moved: &mut moved };
@@ -227,13 +272,160 @@ impl Detour {
         if status < 0 {
             return Err(Detour::refusal(status, &report.detour));
         }
-        moved.truncate(size_of(report.moved)?);
-        Ok(SeenDetour {
-            detour: Detour::of(patch, trampoline, &report.detour)?,
-            moved: moved.iter().map(|one| MovedStart { start: one.start, place: one.place }).collect(),
-            view: View::of(&report.view),
-            call: Some(report.call).filter(|&at| at < report.detour.taken),
-        })
+        SeenDetour::of(patch, trampoline, moved, &report)
+    }
+
+    /// Returns how many bytes are enough for the trampoline of a hook by these rules at any place, at most 400, so that room
+    /// for it can be reserved first. It is 0 if there is no hook at any place. For [`keeping_endbr`](Detour::keeping_endbr)
+    /// reserve 4 bytes more.
+    ///
+    /// ```
+    /// use feddurzai::{Detour, DetourRules, DetourStart};
+    ///
+    /// // sub rsp, 0x18; xor eax, eax; ret
+    /// let function = b"\x48\x83\xEC\x18\x31\xC0\xC3";
+    /// assert_eq!(Detour::room(64, 0x1000, function, 0x2000, DetourStart::Moved, DetourRules::default())?, 27);
+    /// # Ok::<(), feddurzai::Error>(())
+    /// ```
+    ///
+    /// # Errors
+    ///
+    /// [`Error::BadMode`], [`Error::TooLarge`] or [`Error::NoMemory`].
+    pub fn room(
+        bitness: u32,
+        ip: u64,
+        code: &[u8],
+        to: u64,
+        start: DetourStart,
+        rules: DetourRules<'_>,
+    ) -> Result<usize, Error> {
+        let said = Library::get()?.detour_len(bitness, ip, code, to, start as u32, rule_bits(&rules));
+        usize::try_from(said).map_err(|_| Error::of(said, Place { at: 0, address: 0, count: 0 }))
+    }
+
+    /// Makes a hook by rules that keeps an ENDBR64 (64-bit mode) or ENDBR32 (32-bit mode) at the start of the function, so that
+    /// calls through pointers keep working under indirect-branch tracking. The trampoline begins with it too. A function that
+    /// begins with none gets the hook of [`with_rules`](Detour::with_rules).
+    ///
+    /// ```
+    /// use feddurzai::{Detour, DetourRules, DetourStart};
+    ///
+    /// // endbr64; sub rsp, 0x18; xor eax, eax; ret
+    /// let function = b"\xF3\x0F\x1E\xFA\x48\x83\xEC\x18\x31\xC0\xC3";
+    /// let kept = Detour::keeping_endbr(64, 0x1000, function, 0x2000, 0x3000, DetourStart::Moved, DetourRules::default())?;
+    /// assert_eq!((kept.kept, kept.seen.detour.patch()), (4, &b"\xE9\xF7\x0F\x00\x00\xCC"[..]));
+    /// assert_eq!(kept.trampoline[..4], function[..4]);
+    /// # Ok::<(), feddurzai::Error>(())
+    /// ```
+    ///
+    /// # Errors
+    ///
+    /// Those of [`with_rules`](Detour::with_rules), with offsets from the function's first byte; [`Error::Entered`] first if
+    /// control is seen to enter the kept bytes.
+    pub fn keeping_endbr(
+        bitness: u32,
+        ip: u64,
+        code: &[u8],
+        to: u64,
+        place: u64,
+        start: DetourStart,
+        rules: DetourRules<'_>,
+    ) -> Result<KeptDetour, Error> {
+        let library = Library::get()?;
+        let (mut patch, mut moved) = (vec![0; MAX_PATCH], vec![sys::MovedStart::ZERO; MAX_PATCH]);
+        let mut trampoline = Vec::new();
+        let mut report = sys::KeptReport::default();
+        let mut call = |trampoline: &mut [u8], report: &mut sys::KeptReport| {
+            let out = HookOut { patch: &mut patch, trampoline, moved: &mut moved };
+            library.detour_endbr(
+                bitness,
+                ip,
+                code,
+                to,
+                place,
+                start as u32,
+                rule_bits(&rules),
+                rules.entries,
+                out,
+                report,
+            )
+        };
+        let mut status = call(&mut trampoline, &mut report);
+        if status == -6 {
+            trampoline = vec![0; size_of(report.kept)? + size_of(report.hook.detour.bytes)?];
+            status = call(&mut trampoline, &mut report);
+        }
+        if status < 0 {
+            return Err(Detour::refusal(status, &report.hook.detour).behind(report.kept));
+        }
+        let tail = trampoline[size_of(report.kept)?..].to_vec();
+        Ok(KeptDetour { kept: report.kept, trampoline, seen: SeenDetour::of(patch, tail, moved, &report.hook)? })
+    }
+
+    /// Makes a hook by rules of a function that is too small for the near jump but has padding in front of it: a near jump
+    /// over the last bytes of the padding, and over the first bytes of the function a short jump to it. `padding` are the bytes
+    /// directly in front of the function; the caller knows that they belong to no function.
+    ///
+    /// ```
+    /// use feddurzai::{Detour, DetourRules, DetourStart};
+    ///
+    /// // mov eax, edi; ret
+    /// let (padding, function) = ([0xCC; 5], b"\x89\xF8\xC3");
+    /// let rules = DetourRules::default();
+    /// let made = Detour::through_padding(64, 0x1000, &padding, function, 0x2000, 0x3000, DetourStart::Moved, rules)?;
+    /// // jmp 0x2000, for 0xFFB; jmp short 0xFFB
+    /// assert_eq!((&made.jump[..], made.seen.detour.patch()), (&b"\xE9\x00\x10\x00\x00"[..], &b"\xEB\xF9"[..]));
+    /// # Ok::<(), feddurzai::Error>(())
+    /// ```
+    ///
+    /// # Errors
+    ///
+    /// Those of [`with_rules`](Detour::with_rules); first [`Error::Padding`], and [`Error::Entered`] with offsets from the first
+    /// byte of the padding if control is seen to go there. [`Error::TooFar`] also if the near jump reaches neither the
+    /// replacement nor a relay.
+    #[allow(clippy::too_many_arguments)]
+    pub fn through_padding(
+        bitness: u32,
+        ip: u64,
+        padding: &[u8],
+        code: &[u8],
+        to: u64,
+        place: u64,
+        start: DetourStart,
+        rules: DetourRules<'_>,
+    ) -> Result<PaddedDetour, Error> {
+        let library = Library::get()?;
+        let (mut patch, mut moved) = (vec![0; MAX_PATCH], vec![sys::MovedStart::ZERO; MAX_PATCH]);
+        let (mut jump, mut trampoline) = (vec![0; 5], Vec::new());
+        let (start, bits) = (start as u32, rule_bits(&rules));
+        let mut report = sys::PaddedReport::default();
+        let mut call = |trampoline: &mut [u8], report: &mut sys::PaddedReport| {
+            let out = HookOut { patch: &mut patch, trampoline, moved: &mut moved };
+            library.detour_padding(
+                bitness,
+                ip,
+                padding,
+                code,
+                to,
+                place,
+                start,
+                bits,
+                rules.entries,
+                &mut jump,
+                out,
+                report,
+            )
+        };
+        let mut status = call(&mut trampoline, &mut report);
+        if status == -6 {
+            trampoline = vec![0; size_of(report.hook.detour.bytes)?];
+            status = call(&mut trampoline, &mut report);
+        }
+        if status < 0 {
+            return Err(Detour::refusal(status, &report.hook.detour));
+        }
+        jump.truncate(size_of(report.jump)?);
+        Ok(PaddedDetour { jump, seen: SeenDetour::of(patch, trampoline, moved, &report.hook)? })
     }
 
     /// The error of a negative status.

@@ -112,6 +112,13 @@ pub enum Error {
         /// Its offset.
         at: u64,
     },
+    /// The padding in front of the function cannot be used: no padding begins at an offset in it, or it is too short.
+    Padding {
+        /// The offset at which no padding begins, or the number of bytes of the padding.
+        at: u64,
+        /// How many bytes the jump needs if the padding is too short, else 0.
+        need: u64,
+    },
     /// The instruction has no encoding: the first of ten conditions that fails.
     NoEncoding {
         /// The condition.
@@ -261,7 +268,22 @@ impl Error {
             -28 => Error::Unseen { at: place.at, why: SightEnd::of(place.address) },
             -29 => Error::Overlaps,
             -30 => Error::Calls { at: place.at },
+            -31 => Error::Padding { at: place.at, need: place.address },
             _ => Error::of_encoding(status),
+        }
+    }
+
+    /// The same error of a hook, with its offsets in the function counted from a byte that lies so many bytes before.
+    #[cfg(feature = "alloc")]
+    pub(crate) fn behind(self, kept: u64) -> Error {
+        match self {
+            Error::Invalid { at } => Error::Invalid { at: at + kept },
+            Error::TooShort { at } => Error::TooShort { at: at + kept },
+            Error::Ends { at } => Error::Ends { at: at + kept },
+            Error::Entered { from, to } => Error::Entered { from: from + kept, to: to + kept },
+            Error::Calls { at } => Error::Calls { at: at + kept },
+            Error::Unseen { at, why } => Error::Unseen { at: at + kept, why },
+            other => other,
         }
     }
 
@@ -333,6 +355,12 @@ impl fmt::Display for Error {
             Error::Overlaps => f.write_str("the trampoline would lie in the bytes of the function"),
             Error::Calls { at } => {
                 write!(f, "a moved call would hand an address in the trampoline to what it calls: at offset {}", at)
+            }
+            Error::Padding { at, need: 0 } => {
+                write!(f, "the padding in front of the function cannot be used: at offset {}", at)
+            }
+            Error::Padding { at, need } => {
+                write!(f, "the padding in front of the function has {} bytes, the jump {}", at, need)
             }
             Error::NoEncoding { cause, operand: Some(operand) } => {
                 write!(f, "no encoding: operand {}: {}", operand, cause)

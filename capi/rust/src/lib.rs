@@ -85,7 +85,7 @@ mod sys;
 pub use code::{Code, OpCodeInfo};
 pub use decoder::{Decoder, DecoderError, DecoderIntoIter, DecoderIter, DecoderOptions};
 #[cfg(feature = "alloc")]
-pub use detour::{Detour, DetourForm, DetourRules, DetourStart, MovedStart, SeenDetour};
+pub use detour::{Detour, DetourForm, DetourRules, DetourStart, KeptDetour, MovedStart, PaddedDetour, SeenDetour};
 #[cfg(feature = "alloc")]
 pub use encoder::Encoder;
 pub use encoder::{assemble, jump, read_intel, Jump, JumpBytes, MAX_INSTRUCTION_LENGTH};

@@ -265,6 +265,41 @@ fn hooks_follow_rules() {
     assert_eq!(look(64, 0, &vec![0x90; (1 << 20) + 1], &[], 5, &[0], StartRule::Open), Err(Error::TooLarge));
 }
 
+#[test]
+fn hooks_take_other_forms() {
+    let rules = DetourRules::default();
+    // endbr64; cmp byte ptr [rdi], 0; je to the end; inc rdi; a jump back; ret
+    let to_first = b"\xF3\x0F\x1E\xFA\x80\x3F\x00\x74\x05\x48\xFF\xC7\xEB\xF2\xC3";
+    let to_fifth = b"\xF3\x0F\x1E\xFA\x80\x3F\x00\x74\x05\x48\xFF\xC7\xEB\xF6\xC3";
+    let kept = |code: &[u8], start| Detour::keeping_endbr(64, 0x1000, code, 0x2000, 0x3000, start, rules);
+    assert_eq!(kept(to_first, DetourStart::Moved), Err(Error::Entered { from: 12, to: 0 }));
+    assert_eq!(kept(to_fifth, DetourStart::Moved), Err(Error::Entered { from: 12, to: 4 }));
+    let made = kept(to_first, DetourStart::Hooked).unwrap();
+    assert_eq!((made.kept, made.seen.detour.patch()), (4, &b"\xE9\xF7\x0F\x00\x00"[..]));
+    assert_eq!(
+        (&made.trampoline[..7], made.seen.detour.trampoline().len() + 4),
+        (&to_first[..7], made.trampoline.len())
+    );
+    // mov eax, edi; ret, behind NOPs and INT3
+    let padding = b"\x90\xCC\xCC\x66\x90\xCC\xCC\xCC";
+    let padded = |padding: &[u8], code: &[u8], to, place| {
+        Detour::through_padding(64, 0x1000, padding, code, to, place, DetourStart::Moved, rules)
+    };
+    let made = padded(padding, b"\x89\xF8\xC3", 0x2000, 0x3000).unwrap();
+    assert_eq!((&made.jump[..], made.seen.detour.patch()), (&b"\xE9\x00\x10\x00\x00"[..], &b"\xEB\xF9"[..]));
+    assert_eq!(made.seen.detour.trampoline(), b"\x89\xF8\xE9\xFB\xDF\xFF\xFF");
+    let refused = |padding: &[u8], code: &[u8], place| padded(padding, code, 0x2000, place).unwrap_err();
+    assert_eq!(refused(&padding[4..], b"\x89\xF8\xC3", 0x3000), Error::Padding { at: 4, need: 5 });
+    assert_eq!(refused(b"\xCC\xCC\x31\xC0\xCC\xCC\xCC", b"\x89\xF8\xC3", 0x3000), Error::Padding { at: 2, need: 0 });
+    assert_eq!(refused(padding, b"\x89\xF8\xEB\xF9", 0x3000), Error::Entered { from: 10, to: 5 });
+    assert_eq!(refused(padding, b"\x89\xF8\xC3", 0xFF4), Error::Overlaps);
+    // sub rsp, 0x18; xor eax, eax; ret
+    let plain = b"\x48\x83\xEC\x18\x31\xC0\xC3";
+    let room = |to| Detour::room(64, 0x1000, plain, to, DetourStart::Moved, rules);
+    assert_eq!((room(0x2000), room(0x7FFF_0000_0000)), (Ok(27), Ok(41)));
+    assert_eq!(Detour::room(17, 0, plain, 0, DetourStart::Moved, rules), Err(Error::BadMode));
+}
+
 /// Every message is a sentence of its own, and no error is lost.
 #[test]
 fn errors_are_shown() {
@@ -297,6 +332,8 @@ fn errors_are_shown() {
         Error::Unseen { at: 1, why: SightEnd::Ended },
         Error::Overlaps,
         Error::Calls { at: 1 },
+        Error::Padding { at: 1, need: 0 },
+        Error::Padding { at: 1, need: 5 },
         Error::NoEncoding { cause: Cause::Kind, operand: Some(1) },
         Error::NoEncoding { cause: Cause::Length, operand: None },
         Error::Scattered { instruction: 1 },

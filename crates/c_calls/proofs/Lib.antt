@@ -26,4 +26,5 @@ pub mod ShortWords
 pub mod ShortJumps
 pub mod ShortPatches
 pub mod MovedPairs
+pub mod KeptPairs
 pub mod RegionUnits

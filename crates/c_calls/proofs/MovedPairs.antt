@@ -16,7 +16,7 @@ use Rattle.c_calls.specs.declared.ruled.RuledRefusal.{RuledRefusal}
 use Rattle.c_calls.specs.Ruled.{IsRuledAnswerBy}
 
 -- the two lists have one element for each moved instruction
-same-length : (items : List Placed) (place : ℕ) (m : MovedLists)
+pub same-length : (items : List Placed) (place : ℕ) (m : MovedLists)
     → length (places_of items place m) ≡ length (starts_of items)
 unfolding starts_to places_to
 same-length items place m =
@@ -24,7 +24,7 @@ same-length items place m =
     ∙ sym (length-map-range_with_len (offset_at items) 0 (moved_count items))
 
 -- so they do in a detour
-detour-pairs : (bits : Bits) (ip : ℕ) (code : List ℕ) (to place : ℕ) (rules : HookRules) (d : DetourState)
+pub detour-pairs : (bits : Bits) (ip : ℕ) (code : List ℕ) (to place : ℕ) (rules : HookRules) (d : DetourState)
     → IsDetour bits ip code to place (move_rule rules) d
     → length d.places ≡ length d.starts
 detour-pairs bits ip code to place rules d is =

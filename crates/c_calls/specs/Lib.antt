@@ -20,6 +20,9 @@ pub mod Blocks
 pub mod Hooks
 pub mod Looking
 pub mod Ruled
+pub mod Kept
+pub mod Padded
+pub mod Lengths
 pub mod Steps
 pub mod StepCalls
 pub mod UnlistedSteps

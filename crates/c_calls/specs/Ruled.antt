@@ -132,15 +132,18 @@ abbrev pub refusal_report : RuledRefusal → FlatDetour
 refusal_report (NoDetour cause) = rule_report cause
 refusal_report _ = no_detour
 
--- those of the detour, what is seen, how many instructions are moved, and the first call among them or the end of what is overwritten, also where a room
--- does not hold them; or those of the refusal
-abbrev pub ruled_report : Result SeenDetour RuledRefusal → FlatHook
-ruled_report (Ok seen) = record {
+-- those of the detour, what is seen, how many instructions are moved, and the first call among them or the end of what is overwritten
+abbrev pub seen_report : SeenDetour → FlatHook
+seen_report seen = record {
   detour = detour_report seen.detour;
   view = flat_view seen.view;
   moved = length seen.detour.starts;
   call = offset_or seen.detour.call seen.detour.taken;
 }
+
+-- these, also where a room does not hold what they are about; or those of the refusal
+abbrev pub ruled_report : Result SeenDetour RuledRefusal → FlatHook
+ruled_report (Ok seen) = seen_report seen
 ruled_report (Err e) = record { detour = refusal_report e; view = no_view; moved = 0; call = 0 }
 
 -- what the call says and leaves

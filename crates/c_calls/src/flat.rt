@@ -365,3 +365,26 @@ pub struct FlatHook {
     /// The offset of the first call that is moved as it is, or the end of what is overwritten; 0 without a detour.
     pub call: u64,
 }
+
+/// The report of a detour that keeps an ENDBR.
+#[derive(Clone, Copy)]
+#[repr(C)]
+pub struct FlatKept {
+    /// The report of the detour behind the kept bytes, or the numbers of the refusal. Its offsets count from the byte behind the kept ones, in the function and
+    /// in the trampoline.
+    pub hook: FlatHook,
+    /// How many first bytes of the function are kept: the 4 of an ENDBR, or 0. After a refusal, from which offset in the function its numbers count.
+    pub kept: u64,
+}
+
+/// The report of a detour through padding.
+#[derive(Clone, Copy)]
+#[repr(C)]
+pub struct FlatPadded {
+    /// The report of the detour, or the numbers of the refusal.
+    pub hook: FlatHook,
+    /// How many bytes the near jump has; 0 without a detour.
+    pub jump: u64,
+    /// 1 after a refusal that is about the padding or the jump in it, else 0.
+    pub padding: u64,
+}

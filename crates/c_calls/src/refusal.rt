@@ -66,6 +66,8 @@ pub(crate) enum Refusal {
     Overlaps,
     /// A moved call would hand on an address in the trampoline.
     Calls,
+    /// The padding in front of a function has too few bytes, or other bytes.
+    Padding,
     /// The instruction has no plain spelling there: the condition that fails, and the operand that fails it, 0 for a condition of the whole instruction.
     Spelling { why: NoSpelling, operand: u8 },
 }
@@ -123,6 +125,7 @@ fn refusal_number(why: Refusal) -> u16
         Refusal::Unseen => 28,
         Refusal::Overlaps => 29,
         Refusal::Calls => 30,
+        Refusal::Padding => 31,
         Refusal::Spelling { why, operand } => condition_number(why) + u16::from(operand),
     }
 }

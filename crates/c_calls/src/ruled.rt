@@ -30,7 +30,7 @@ pub(crate) enum RuledRefusal {
 }
 
 /// Why the rules give no detour, by the refusals of all calls.
-fn rule_refusal(why: RuleError) -> Refusal
+pub(crate) fn rule_refusal(why: RuleError) -> Refusal
     ensures { result ≡ spec.rule_refusal why }
 {
     match why {
@@ -56,7 +56,7 @@ fn ruled_refusal(why: RuledRefusal) -> Refusal
 }
 
 /// Nothing seen.
-const NO_VIEW: FlatView = FlatView {
+pub(crate) const NO_VIEW: FlatView = FlatView {
     sight_at: 0,
     entered_from: 0,
     entered_target: 0,
@@ -70,7 +70,7 @@ const NO_VIEW: FlatView = FlatView {
 };
 
 /// The numbers of a cause of the rules.
-fn rule_report(why: RuleError) -> FlatDetour
+pub(crate) fn rule_report(why: RuleError) -> FlatDetour
     ensures { result ≡ spec.rule_report why }
 {
     match why {
@@ -113,17 +113,24 @@ fn call_or(call: Option<u32>, end: u64) -> u64
     }
 }
 
+/// Returns the report of a detour with what was seen.
+pub(crate) fn seen_report(seen: &SeenDetour) -> FlatHook
+    ensures { result ≡ spec.seen_report seen.now }
+{
+    FlatHook {
+        detour: detour_report(&seen.detour),
+        view: flat_view(&seen.view),
+        moved: seen.detour.starts().len() as u64,
+        call: call_or(seen.detour.call(), seen.detour.taken() as u64),
+    }
+}
+
 /// Returns the report of a result.
 fn ruled_report(answer: &Result<SeenDetour, RuledRefusal>) -> FlatHook
     ensures { result ≡ spec.ruled_report answer.now }
 {
     match answer {
-        Ok(seen) => FlatHook {
-            detour: detour_report(&seen.detour),
-            view: flat_view(&seen.view),
-            moved: seen.detour.starts().len() as u64,
-            call: call_or(seen.detour.call(), seen.detour.taken() as u64),
-        },
+        Ok(seen) => seen_report(seen),
         Err(why) => FlatHook {
             detour: refusal_report(*why),
             view: NO_VIEW,
@@ -135,7 +142,7 @@ fn ruled_report(answer: &Result<SeenDetour, RuledRefusal>) -> FlatHook
 
 /// The rules, by the number of what becomes of the function's own start and the bits: 1 for whole sight, 2 for own return addresses, 4 for no calls.
 #[tactic(auto, unfolding(crate::specs::Ruled::rules_numbered))]
-fn rules_numbered(start: u32, rules: u32) -> Option<HookRules>
+pub(crate) fn rules_numbered(start: u32, rules: u32) -> Option<HookRules>
     ensures { result ≡ spec.rules_numbered (start_numbered start) rules }
 {
     match start_numbered(start) {
@@ -198,7 +205,7 @@ fn moved_start(starts: &[u32], places: &[u64], k: usize) -> FlatMovedStart
 }
 
 /// Writes the moved instructions at the start of a buffer.
-fn write_moved(room: &mut [FlatMovedStart], starts: &[u32], places: &[u64])
+pub(crate) fn write_moved(room: &mut [FlatMovedStart], starts: &[u32], places: &[u64])
     requires fits { length starts.now ≤ length room.old }
     requires pairs { length places.now ≡ length starts.now }
     ensures { room.new ≡ spec.moved_starts starts.now places.now (length starts.now) ++ drop (length starts.now) room.old }

@@ -9,6 +9,7 @@
 #![tactic(auto)]
 
 mod flow;
+mod hook_forms;
 mod hooks;
 mod information;
 mod moving;

@@ -243,6 +243,49 @@ extern "C" {
         moved_room: usize,
         report: *mut HookReport,
     ) -> i32;
+    fn feddurzai_detour_len(bits: u32, ip: u64, code: *const u8, len: usize, to: u64, start: u32, rules: u32) -> i32;
+    fn feddurzai_detour_endbr(
+        bits: u32,
+        ip: u64,
+        code: *const u8,
+        len: usize,
+        to: u64,
+        place: u64,
+        start: u32,
+        rules: u32,
+        entries: *const u32,
+        entry_count: usize,
+        patch: *mut u8,
+        patch_room: usize,
+        trampoline: *mut u8,
+        trampoline_room: usize,
+        moved: *mut MovedStart,
+        moved_room: usize,
+        report: *mut KeptReport,
+    ) -> i32;
+    fn feddurzai_detour_padding(
+        bits: u32,
+        ip: u64,
+        padding: *const u8,
+        padding_len: usize,
+        code: *const u8,
+        len: usize,
+        to: u64,
+        place: u64,
+        start: u32,
+        rules: u32,
+        entries: *const u32,
+        entry_count: usize,
+        jump: *mut u8,
+        jump_room: usize,
+        patch: *mut u8,
+        patch_room: usize,
+        trampoline: *mut u8,
+        trampoline_room: usize,
+        moved: *mut MovedStart,
+        moved_room: usize,
+        report: *mut PaddedReport,
+    ) -> i32;
     fn feddurzai_look(
         bits: u32,
         ip: u64,
@@ -854,6 +897,93 @@ impl Library {
                 rules,
                 entries.as_ptr(),
                 entries.len(),
+                out.patch.as_mut_ptr(),
+                out.patch.len(),
+                out.trampoline.as_mut_ptr(),
+                out.trampoline.len(),
+                out.moved.as_mut_ptr(),
+                out.moved.len(),
+                report,
+            )
+        }
+    }
+
+    pub fn detour_len(self, bits: u32, ip: u64, code: &[u8], to: u64, start: u32, rules: u32) -> i32 {
+        // SAFETY: the slice has as many elements as its length says, and nothing is written.
+        unsafe { feddurzai_detour_len(bits, ip, code.as_ptr(), code.len(), to, start, rules) }
+    }
+
+    pub fn detour_endbr(
+        self,
+        bits: u32,
+        ip: u64,
+        code: &[u8],
+        to: u64,
+        place: u64,
+        start: u32,
+        rules: u32,
+        entries: &[u32],
+        out: HookOut<'_>,
+        report: &mut KeptReport,
+    ) -> i32 {
+        // SAFETY: each slice has as many elements as its length says, `report` is a struct of the header, and no argument
+        // that is written overlaps another.
+        unsafe {
+            feddurzai_detour_endbr(
+                bits,
+                ip,
+                code.as_ptr(),
+                code.len(),
+                to,
+                place,
+                start,
+                rules,
+                entries.as_ptr(),
+                entries.len(),
+                out.patch.as_mut_ptr(),
+                out.patch.len(),
+                out.trampoline.as_mut_ptr(),
+                out.trampoline.len(),
+                out.moved.as_mut_ptr(),
+                out.moved.len(),
+                report,
+            )
+        }
+    }
+
+    pub fn detour_padding(
+        self,
+        bits: u32,
+        ip: u64,
+        padding: &[u8],
+        code: &[u8],
+        to: u64,
+        place: u64,
+        start: u32,
+        rules: u32,
+        entries: &[u32],
+        jump: &mut [u8],
+        out: HookOut<'_>,
+        report: &mut PaddedReport,
+    ) -> i32 {
+        // SAFETY: each slice has as many elements as its length says, `report` is a struct of the header, and no argument
+        // that is written overlaps another.
+        unsafe {
+            feddurzai_detour_padding(
+                bits,
+                ip,
+                padding.as_ptr(),
+                padding.len(),
+                code.as_ptr(),
+                code.len(),
+                to,
+                place,
+                start,
+                rules,
+                entries.as_ptr(),
+                entries.len(),
+                jump.as_mut_ptr(),
+                jump.len(),
                 out.patch.as_mut_ptr(),
                 out.patch.len(),
                 out.trampoline.as_mut_ptr(),

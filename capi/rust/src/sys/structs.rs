@@ -205,4 +205,15 @@ structs! {
         moved: u64,
         call: u64,
     }
+    /// The report of a detour that keeps an ENDBR.
+    KeptReport = "feddurzai_kept_report" {
+        hook: HookReport,
+        kept: u64,
+    }
+    /// The report of a detour through padding.
+    PaddedReport = "feddurzai_padded_report" {
+        hook: HookReport,
+        jump: u64,
+        padding: u64,
+    }
 }
