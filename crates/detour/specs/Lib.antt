@@ -9,5 +9,6 @@ pub mod Calls
 pub mod ReadBack
 pub mod Detours
 pub mod Rules
+pub mod Kept
 pub mod Made
 pub mod HookSlots

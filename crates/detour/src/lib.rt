@@ -6,6 +6,7 @@ mod entries;
 mod error;
 pub mod hook_slots;
 mod jumps;
+mod kept;
 mod laws_below;
 mod making;
 mod parts;
@@ -16,6 +17,7 @@ mod taken;
 mod trampoline;
 
 pub use error::DetourError;
+pub use kept::{KeepError, KeptDetour, detour_keeping_endbr};
 pub use making::detour;
 pub use parts::{Detour, JumpForm, Parts};
 pub use rules::{HookRules, RuleError, SeenDetour, detour_with};

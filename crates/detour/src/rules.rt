@@ -78,7 +78,7 @@ fn is_within(bits: Bits, base: u64, len: usize, at: u64) -> bool
 
 /// Whether two ranges of addresses of a mode have an address in common.
 #[tactic(auto, using(std::proofs::lemmas::Bool::Decides::nat_tests), unfolding(crate::specs::Rules::overlaps))]
-fn overlaps(bits: Bits, ip: u64, len: usize, place: u64, other: usize) -> bool
+pub(crate) fn overlaps(bits: Bits, ip: u64, len: usize, place: u64, other: usize) -> bool
     ensures { result ≡ spec.overlaps bits ip len place other }
 {
     len > 0 && other > 0 && (is_within(bits, ip, len, place) || is_within(bits, place, other, ip))
@@ -92,7 +92,7 @@ fn lies_in(bits: Bits, ip: u64, code: &[u8], place: u64, made: &Detour) -> bool
 }
 
 /// The rule for control that comes back to the start, by what becomes of targets there.
-fn rule_of(start: StartTarget) -> StartRule
+pub(crate) fn rule_of(start: StartTarget) -> StartRule
     ensures { result ≡ spec.rule_of start }
 {
     match start {

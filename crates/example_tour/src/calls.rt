@@ -6,7 +6,9 @@ use feddurzai::decoding::{Decoder, Items, decode_in, read_items};
 use feddurzai::encoding::{encode, encoded_len};
 use feddurzai::flow::graph_of_code;
 use feddurzai::format::{Intel, Style, ascii_str, print_att};
-use feddurzai::hooks::{HookRules, Hooks, StartRule, StartTarget, detour, detour_with, look};
+use feddurzai::hooks::{
+    HookRules, Hooks, StartRule, StartTarget, detour, detour_keeping_endbr, detour_with, look,
+};
 use feddurzai::info::{
     Features, FlagSet, all_memory, all_registers, flags_of, laws, needed_features,
 };
@@ -240,6 +242,27 @@ fn hook_by_rules(rt: &HostRuntime) -> anyhow::Result<()> {
     Ok(())
 }
 
+/// Makes a patch behind an ENDBR64.
+fn hook_behind_endbr(rt: &HostRuntime) -> anyhow::Result<()> {
+    // endbr64; push rbp; mov rbp, rsp; mov eax, edi; pop rbp; ret
+    let code = b"\xf3\x0f\x1e\xfa\x55\x48\x89\xe5\x89\xf8\x5d\xc3";
+    let rules = HookRules {
+        start: StartTarget::Moved,
+        whole: true,
+        returns: false,
+        calls: false,
+    };
+    let (ip, to, place) = (0x40_1000, 0x50_0000, 0x60_0000);
+    let made = detour_keeping_endbr(rt.alloc(), Bits::B64, ip, code, to, place, &[], rules)?;
+    println!(rt;
+        "{} {}",
+        made.kept(),
+        hex::encode(rt.alloc(), made.patch())?
+    )?; // 4 e9f7ef0f00cc
+    println!(rt; "{}", hex::encode(rt.alloc(), made.trampoline())?)?; // f30f1efa554889e589f8e9fb0fe0ff
+    Ok(())
+}
+
 /// Keeps a hook in a range of trampolines.
 fn keep_hook(rt: &HostRuntime) -> anyhow::Result<()> {
     let mut hooks = Hooks::make(rt.alloc(), Bits::B64, 0x60_0000, 4096, 64)?;
@@ -294,6 +317,7 @@ pub fn run(rt: &HostRuntime) -> anyhow::Result<()> {
     hook_function(rt)?;
     see_function(rt)?;
     hook_by_rules(rt)?;
+    hook_behind_endbr(rt)?;
     keep_hook(rt)?;
     list_function(rt)
 }

@@ -14,20 +14,30 @@ use std::test::Fail;
 
 /// A function as hexadecimal digits at its address, where the trampoline will stand, its further entries, and the rules.
 #[derive(Clone, Copy)]
-struct Case {
-    bits: Bits,
-    ip: u64,
-    code: &'static str,
-    place: u64,
-    start: StartTarget,
-    entries: &'static [u32],
-    whole: bool,
-    returns: bool,
-    calls: bool,
+pub(crate) struct Case {
+    pub(crate) bits: Bits,
+    pub(crate) ip: u64,
+    pub(crate) code: &'static str,
+    pub(crate) place: u64,
+    pub(crate) start: StartTarget,
+    pub(crate) entries: &'static [u32],
+    pub(crate) whole: bool,
+    pub(crate) returns: bool,
+    pub(crate) calls: bool,
+}
+
+/// The rules of a case.
+pub(crate) fn rules_of(case: &Case) -> HookRules {
+    HookRules {
+        start: case.start,
+        whole: case.whole,
+        returns: case.returns,
+        calls: case.calls,
+    }
 }
 
 /// A function of 64-bit mode at 1000 whose trampoline will stand at 9000, of which all is to be seen.
-const WHOLE: Case = Case {
+pub(crate) const WHOLE: Case = Case {
     bits: Bits::B64,
     ip: 0x1000,
     code: "",
@@ -46,7 +56,7 @@ const PART: Case = Case {
 };
 
 /// Such functions of 32-bit mode.
-const WHOLE_32: Case = Case {
+pub(crate) const WHOLE_32: Case = Case {
     bits: Bits::B32,
     ..WHOLE
 };
@@ -57,7 +67,7 @@ const PART_32: Case = Case {
 };
 
 /// Such functions of 16-bit mode.
-const WHOLE_16: Case = Case {
+pub(crate) const WHOLE_16: Case = Case {
     bits: Bits::B16,
     ..WHOLE
 };
@@ -81,12 +91,7 @@ fn hooked(alloc: Global, case: &Case) -> Result<Result<SeenDetour, RuleError>, F
         0x5000,
         case.place,
         case.entries,
-        HookRules {
-            start: case.start,
-            whole: case.whole,
-            returns: case.returns,
-            calls: case.calls,
-        },
+        rules_of(case),
     ))
 }
 
