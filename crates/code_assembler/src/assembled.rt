@@ -36,7 +36,7 @@ pub(crate) fn place_of(labels: &[Option<u32>], label: u32) -> Option<u32>
     }
 }
 
-/// The address of the instruction that a label stands before.
+/// The address of the instruction that a label precedes.
 fn start_of(starts: &[u64], place: Option<u32>) -> Option<u64>
     ensures { result ≡ start_at starts.now place }
 {

@@ -57,7 +57,7 @@ pub enum FinishError {
     /// There was not enough memory.
     #[error("out of memory")]
     Memory,
-    /// The label of this instruction, counted from 0, stands before no instruction.
+    /// The label of this instruction, counted from 0, precedes no instruction.
     #[error("the label of instruction {at} has no instruction behind it")]
     Unplaced { at: usize },
     /// The routine passes the address space of the mode: it ends at this address.

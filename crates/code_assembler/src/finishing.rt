@@ -21,7 +21,7 @@ use move_goals::moved_targets::target_of;
 use std::alloc::{AllocError, Global};
 use x86_values::Bits;
 
-/// Whether an instruction goes to no label, or to one that stands before one of `count` instructions.
+/// Whether an instruction goes to no label, or to one that precedes one of `count` instructions.
 fn is_aimed(labels: &[Option<u32>], count: usize, aim: Option<u32>) -> bool
     ensures { result ≡ spec.is_aimed labels.now count aim }
 {
@@ -34,7 +34,7 @@ fn is_aimed(labels: &[Option<u32>], count: usize, aim: Option<u32>) -> bool
     }
 }
 
-/// The first instruction whose label stands before none.
+/// The first instruction whose label precedes none.
 #[tactic(auto, unfolding(crate::specs::Routine::first_unplaced))]
 fn first_unplaced(labels: &[Option<u32>], aims: &[Option<u32>]) -> Option<usize>
     ensures { result ≡ spec.first_unplaced labels.now aims.now (length aims.now) }
@@ -74,7 +74,7 @@ fn stand_goal(count: usize, place: Option<u32>, other: Goal) -> Goal
     }
 }
 
-/// The goal of an instruction: the one that its label stands before, or its own target.
+/// The goal of an instruction: the one that its label precedes, or its own target.
 fn aim_goal(labels: &[Option<u32>], count: usize, item: &Placed, aim: Option<u32>) -> Goal
     ensures { result ≡ spec.aim_goal labels.now count item.now aim }
 {
@@ -156,7 +156,7 @@ impl Assembler {
     /// The bytes decode at `base` to the instructions in order, each of which goes to its label or its own target. The routine can be finished again,
     /// at another address too.
     ///
-    /// Errors, in this order: `Unplaced` names the first instruction whose label stands before no instruction; `Wraps`: the end lies past the address space
+    /// Errors, in this order: `Unplaced` names the first instruction whose label precedes no instruction; `Wraps`: the end lies past the address space
     /// of the mode; `TooFar` names the first instruction that does not reach its target. `Memory` can replace the last two.
     pub fn finish(&self, alloc: Global, base: u64) -> Result<Assembled, FinishError>
         ensures { IsFinished self.now base result }
@@ -168,7 +168,7 @@ impl Assembler {
         }
     }
 
-    /// The bytes of a routine in which each label that is gone to stands before an instruction.
+    /// The bytes of a routine in which each label that is gone to precedes an instruction.
     fn finish_placed(&self, alloc: Global, base: u64) -> Result<Assembled, FinishError>
         requires { spec.first_unplaced self.now.labels self.now.aims (length self.now.items) ≡ None }
         ensures { IsFinished self.now base result }
