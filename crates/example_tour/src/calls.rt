@@ -238,11 +238,8 @@ fn hook_behind_endbr(rt: &HostRuntime) -> anyhow::Result<()> {
     };
     let (ip, to, place) = (0x40_1000, 0x50_0000, 0x60_0000);
     let made = detour_keeping_endbr(rt.alloc(), Bits::B64, ip, code, to, place, &[], rules)?;
-    println!(rt;
-        "{} {}",
-        made.kept(),
-        hex::encode(rt.alloc(), made.patch())?
-    )?; // 4 e9f7ef0f00cc
+    println!(rt; "{}", made.kept())?; // 4
+    println!(rt; "{}", hex::encode(rt.alloc(), made.patch())?)?; // e9f7ef0f00cc
     println!(rt; "{}", hex::encode(rt.alloc(), made.trampoline())?)?; // f30f1efa554889e589f8e9fb0fe0ff
     Ok(())
 }
