@@ -88,6 +88,7 @@ module _ (laws : DetourLawsBelow) where
   near-long B64 at t bytes e =
       laws.targets.encoding-length B64 at (branch_to (near_code JumpAction B64) None t) bytes e ∙ laws.pieces.near_jump-length B64 B64 t
 
+  -- so has the jump from the padding, wherever it goes
   pub padding_jump-long : (bits : Bits) (at to : ℕ) (behind : Option ℕ) (form : JumpForm) (near : List ℕ) (relay : Option ℕ)
       → IsPaddingJump bits at to behind form near relay → length near ≡ near_len bits
   padding_jump-long bits at to behind Near near relay h = near-long bits at to near h.0
