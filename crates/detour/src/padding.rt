@@ -1,6 +1,6 @@
 //! A detour through the padding in front of a function.
 
-ghost use Rattle.std.specs.Prelude.{◌≡◌, ◌+◌, ◌<◌, ◌≤◌, ◌++◌, ◌^◌, [], false, length, IfOk, IfSome, Ok};
+ghost use Rattle.std.specs.Prelude.{◌≡◌, ◌+◌, ◌-◌, ◌<◌, ◌≤◌, ◌++◌, ◌^◌, [], false, length, IfOk, IfSome, Ok};
 ghost use Rattle.x86_values.specs.Wrapping.{width};
 ghost use Rattle.detour.specs.Padding as spec;
 ghost use Rattle.detour.specs.Padding.{IsPaddingAnswer, IsPaddingPassage, IsFreePadding, IsTakenShort, IsThrough, IsPaddingDetour};
@@ -124,13 +124,23 @@ fn near_len(bits: Bits) -> usize
     }
 }
 
+/// How far the near jump is from behind the short one, that far below 256.
+fn short_offset(bits: Bits) -> u8
+    ensures { result ≡ 0xFE - spec.near_len bits }
+{
+    match bits {
+        Bits::B16 => 0xFB,
+        Bits::B32 | Bits::B64 => 0xF9,
+    }
+}
+
 /// The short jump to the near jump.
 fn short_jump(bits: Bits) -> ArrayVec<u8, 15>
     ensures { result.items ≡ spec.short_jump bits }
 {
     let mut bytes = ArrayVec::new();
     bytes.push(0xEB);
-    bytes.push(0xFE - near_len(bits) as u8);
+    bytes.push(short_offset(bits));
     bytes
 }
 
