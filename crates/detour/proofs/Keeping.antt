@@ -1,5 +1,5 @@
 -- What the parts of a detour that keeps an ENDBR give together.
-use Rattle.std.proofs.Common.{◌≡◌, ℕ, ◌+◌, ◌^◌, ◌<◌, ◌≤◌, true, inl, inr, List, length, take, drop, None, Result, Ok, Err, refl, ap, arith}
+use Rattle.std.proofs.Common.{◌≡◌, ℕ, ◌+◌, ◌^◌, ◌<◌, ◌≤◌, true, inl, inr, List, [], ◌∷◌, length, take, drop, None, Result, Ok, Err, refl, ap, arith}
 use Rattle.std.specs.Prelude.{bytes_eq}
 use Rattle.std.proofs.lemmas.List.{length-take}
 use Rattle.std.proofs.lemmas.Slice.Eq.{bytes_eq-Decides}
@@ -26,8 +26,8 @@ four_long word code four same =
 pub endbr_long : (bits : Bits) (code : List ℕ) → has_endbr bits code ≡ true → 4 ≤ length code
 unfolding has_endbr
 endbr_long B16 code e = absurd (cc)
-endbr_long B32 code e = four_long _ code refl e
-endbr_long B64 code e = four_long _ code refl e
+endbr_long B32 code e = four_long (0xF3 ∷ 0x0F ∷ 0x1E ∷ 0xFB ∷ []) code refl e
+endbr_long B64 code e = four_long (0xF3 ∷ 0x0F ∷ 0x1E ∷ 0xFA ∷ []) code refl e
 
 module _ (bits : Bits) (ip : ℕ) (code : List ℕ) (to place : ℕ) (entries : List ℕ) (rules : HookRules) where
   -- the tail has its answer where its trampoline has an address
