@@ -1,7 +1,6 @@
 -- What the parts of a detour through padding give together.
-use Rattle.std.proofs.Common.{◌≡◌, ℕ, ◌+◌, ◌-◌, ◌^◌, ◌<◌, Bool, true, false, ◌&&◌, inl, inr, List, [], ◌∷◌, ◌++◌, length, replicate, Option, Some, None, Result, Ok, Err, refl, sym, ap, subst, ◌∙◌, arith}
-use Rattle.std.specs.Prelude.{IfSome, IfOk, IfErr}
-use Rattle.std.specs.List.{list_all}
+use Rattle.std.proofs.Common.{◌≡◌, ℕ, ◌+◌, ◌-◌, ◌^◌, ◌<◌, Bool, true, ◌&&◌, inl, inr, List, [], ◌∷◌, ◌++◌, length, replicate, Option, Some, None, Result, Ok, Err, refl, sym, ap, subst, ◌∙◌, arith}
+use Rattle.std.specs.Prelude.{IfSome}
 use Rattle.std.proofs.lemmas.List.{append-nil}
 use Rattle.std.proofs.lemmas.List.Folds.{list_all-append}
 use Rattle.std.proofs.lemmas.List.Sums.{sum_by_push}
@@ -9,20 +8,17 @@ use Rattle.x86_values.specs.declared.Bits.{Bits}
 use Rattle.x86_values.specs.declared.Bits.TheVariants.{B16, B32, B64}
 use Rattle.x86_values.specs.Wrapping.{modulo_width, width}
 use Rattle.opcode_rows.specs.Reading.{IsRead}
-use Rattle.flow_graph.specs.Control.{code_bytes}
 use Rattle.move_goals.specs.declared.branch_forms.branch.Action.TheVariants.{Jump as JumpAction}
 use Rattle.move_goals.specs.BranchForms.Branches.{near_code}
 use Rattle.move_goals.specs.BranchForms.Images.{branch_to}
 use Rattle.move_goals.specs.declared.items.Placed.{Placed}
 use Rattle.move_goals.specs.Items.{ArePlaced}
-use Rattle.block_encoder.specs.declared.error.MoveError.TheVariants as move_error
 use Rattle.block_encoder.specs.declared.error.PlanError.{PlanError}
 use Rattle.block_encoder.specs.declared.error.PlanError.TheVariants as plan_error
 use Rattle.block_encoder.specs.Moved.{MovedLists}
 use Rattle.block_encoder.specs.ByPlan.{IsPlanAnswer}
 use Rattle.block_encoder.specs.Planned.{move_error_of}
 use Rattle.detour.specs.declared.error.DetourError.{DetourError}
-use Rattle.detour.specs.declared.error.DetourError.TheVariants as detour_error
 use Rattle.detour.specs.declared.making.Jump.{Jump}
 use Rattle.detour.specs.declared.padding.PaddingError.{PaddingError}
 use Rattle.detour.specs.declared.padding.PaddingError.TheVariants.{TooShort, NotPadding, Entered, Function, OutOfReach, Overlaps}
@@ -31,7 +27,6 @@ use Rattle.detour.specs.declared.parts.JumpForm.TheVariants.{Near, Relay, Absolu
 use Rattle.detour.specs.declared.rules.HookRules.{HookRules}
 use Rattle.detour.specs.declared.rules.RuleError.{RuleError}
 use Rattle.detour.specs.declared.rules.RuleError.TheVariants as rule_error
-use Rattle.detour.specs.declared.rules.SeenDetour.{SeenDetour}
 use Rattle.detour.specs.declared.start.MoveRule.{MoveRule}
 use Rattle.detour.specs.declared.taken.Taken.{Taken}
 use Rattle.detour.specs.Reading.{IsItemOf}
@@ -44,7 +39,7 @@ use Rattle.detour.specs.ReadBack.{jump_reading, IsPatchRead, IsRelayRead}
 use Rattle.detour.specs.Detours.{DetourState, patch_of, relay_bytes, relay_behind, parts_of}
 use Rattle.detour.specs.Made.{detour_error_of, IsPutTogether}
 use Rattle.detour.specs.Rules.{move_rule, IsRuled}
-use Rattle.detour.specs.Padding.{near_len, jump_address, short_jump, short_reading, PaddedState, IsPaddingTo, IsFreePadding, IsTakenShort, IsPaddingJump, IsNoJump, IsPaddedMade, IsPaddedUnmade, IsPaddedBy, IsPaddedRuled, IsThrough, IsPaddingDetour}
+use Rattle.detour.specs.Padding.{near_len, jump_address, short_jump, short_reading, PaddedState, IsPaddingTo, IsFreePadding, IsTakenShort, IsPaddingJump, IsPaddedMade, IsPaddedUnmade, IsPaddedBy, IsThrough, IsPaddingDetour}
 use Rattle.detour.specs.PaddingParts.{IsRelayJump, IsPaddingJumpAnswer, IsPaddingRefusal}
 use Rattle.detour.proofs.Front.{read_more}
 use Rattle.detour.proofs.Jumping.{far-in_64}

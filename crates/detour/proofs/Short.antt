@@ -1,23 +1,22 @@
 -- The short jump to a near jump in front of it is encoded in its two bytes at every address, and read so.
-use Rattle.std.proofs.Common.{◌≡◌, ℕ, ◌+◌, ◌-◌, ◌^◌, ◌<◌, ◌≤◌, Bool, true, ◌&&◌, List, [], ◌∷◌, ◌++◌, length, Some, None, Ok, nat_lt, slice_get, refl, sym, ap, ◌∙◌, arith}
+use Rattle.std.proofs.Common.{◌≡◌, ℕ, ◌+◌, ◌-◌, ◌^◌, ◌<◌, Bool, true, ◌&&◌, List, ◌∷◌, ◌++◌, length, Some, Ok, slice_get, refl, sym, ap, ◌∙◌, arith}
 use Rattle.std.proofs.lemmas.Bool.{lt-ltb}
 use Rattle.x86_values.specs.declared.Bits.{Bits}
 use Rattle.x86_values.specs.declared.Bits.TheVariants.{B16, B32, B64}
-use Rattle.x86_values.specs.declared.Instr.{Instr}
 use Rattle.x86_values.specs.Wrapping.{modulo_width, width}
 use Rattle.instruction_parts.specs.declared.row_types.Map.TheVariants.{One}
 use Rattle.instruction_parts.specs.declared.row_types.OpKind.TheVariants.{Jb}
 use Rattle.instruction_parts.specs.declared.row_types.Row.{Row}
 use Rattle.instruction_parts.specs.Bytes.{lead_bytes, tail_bytes, front_bytes, bytes_of}
-use Rattle.instruction_parts.specs.Kinds.{method_of, file_of, immediate_width}
+use Rattle.instruction_parts.specs.Kinds.{method_of, immediate_width}
 use Rattle.instruction_parts.specs.Sizes.{exists_in, operand_size}
 use Rattle.row_fit.specs.Fits.{immediate_bytes}
 use Rattle.plain_spelling.specs.Values.{low_bytes, is_extended_of, distance}
-use Rattle.plain_spelling.specs.Forms.{is_variant_of, is_allowed_in}
-use Rattle.plain_spelling.specs.Addresses.{has_address_size, pointer_size, shown_size, written_size, general_size}
+use Rattle.plain_spelling.specs.Forms.{is_variant_of}
+use Rattle.plain_spelling.specs.Addresses.{pointer_size, shown_size, written_size, general_size}
 use Rattle.plain_spelling.specs.PlainFront.{register_number, number_in_reg, number_in_rm, number_in_index, number_in_vvvv, number_in_opcode, is_low_byte_of_rex, asks_rex_w, asks_r, asks_x, asks_b, asks_66, asks_67, asks_vex_w, asked_used, asked_repeat, asked_rex, asked_vex, asked_opcode, class_pp, plain_front_of}
 use Rattle.plain_spelling.specs.PlainTail.{prefixes_of, plain_size, plain_modrm, plain_sib_of, rm_fields, fixed_rm, displacement_of, operand_immediate, immediate_at, plain_immediates, plain_len, plain_next, plain_spelling}
-use Rattle.plain_spelling.specs.Expressible.{Suits, kind_suits, register_suits, address_suits, displacement_offered, immediate_suits, immediate_suits_how, near_reaches, target_suits, lock_suits, repeat_suits, prefixes_suit, has_memory_operand, told_size, size_agrees, is_size_of, address_size_suits}
+use Rattle.plain_spelling.specs.Expressible.{Suits, kind_suits, register_suits, address_suits, displacement_offered, immediate_suits, immediate_suits_how, near_reaches, target_suits, lock_suits, repeat_suits, prefixes_suit, has_memory_operand, address_size_suits}
 use Rattle.opcode_rows.specs.Table.{table}
 use Rattle.opcode_rows.specs.Reading.{IsRead}
 use Rattle.encoder.specs.Encoding.{encoding}

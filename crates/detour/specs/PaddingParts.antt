@@ -1,7 +1,6 @@
 -- What the parts of the making of a detour through padding give.
 use Rattle.std.specs.Prelude.{◌≡◌, ◌⊎◌, ℕ, ◌<◌, ◌≤◌, true, List, length, Option, Some, None, Result, Ok, Err}
 use Rattle.x86_values.specs.declared.Bits.{Bits}
-use Rattle.flow_graph.specs.Control.{code_bytes}
 use Rattle.move_goals.specs.declared.items.Placed.{Placed}
 use Rattle.detour.specs.declared.error.DetourError.{DetourError}
 use Rattle.detour.specs.declared.error.DetourError.TheVariants as detour_error

@@ -1,4 +1,4 @@
-use Rattle.std.proofs.Common.{Option, None, subst}
+use Rattle.std.proofs.Common.{Option, subst}
 use Rattle.flow_graph.specs.declared.hook_sight.answers.Passage.{Passage}
 use Rattle.detour.specs.Kept.{IsHeadPassage}
 use Rattle.detour.proofs.Keeping.{kept_answer}

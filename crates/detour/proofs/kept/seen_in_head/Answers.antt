@@ -7,8 +7,7 @@ use Rattle.detour.proofs.kept.seen_in_head.Goals as goal
 
 pub returns : goal.returns
 returns c =
-    let code = code_bytes c.args.bits c.args.ip c.args.code.now in
-    (
+    let code = code_bytes c.args.bits c.args.ip c.args.code.now in (
       c.in_ok-view.view,
       (
         subst (λ (r : StartRule). IsView code c.args.entries.now (part_of 4 (0 ∷ []) r) c.in_ok-view.view) c.rule_of-rule.ensures c.in_ok-view.ensures,

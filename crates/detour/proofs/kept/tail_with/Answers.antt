@@ -13,10 +13,10 @@ returns c =
     let behind : c.in-Some.place ≡ a.place + 4 = c.in-Some.ensures.1 in
     let below : a.place + 4 < 2 ^ 64 = c.in-Some.ensures.0 in
     let address : c.wrap-ip.result ≡ modulo_width a.bits (a.ip + 4) =
-        c.wrap-ip.ensures ∙ ap (λ (n : ℕ). modulo_width a.bits (n + 4)) c.from-2.ensures in
+    c.wrap-ip.ensures ∙ ap (λ (n : ℕ). modulo_width a.bits (n + 4)) c.from-2.ensures in
     let entries : c.deref.result.now ≡ tail_entries a.entries.now = c.deref.ensures.value ∙ c.in-Ok.ensures in
     let rest : take (length a.code.now - 4) (drop 4 a.code.now) ≡ drop 4 a.code.now =
-        subst (λ (n : ℕ). take n (drop 4 a.code.now) ≡ drop 4 a.code.now) (length-drop 4 a.code.now) (take-length (drop 4 a.code.now)) in
+    subst (λ (n : ℕ). take n (drop 4 a.code.now) ≡ drop 4 a.code.now) (length-drop 4 a.code.now) (take-length (drop 4 a.code.now)) in
     tail_fits a.bits a.ip a.code.now a.to a.place a.entries.now a.rules c.detour_with.result below
     (subst (λ (n : ℕ). IsRuledAnswer a.bits n (drop 4 a.code.now) a.to (a.place + 4) (tail_entries a.entries.now) a.rules c.detour_with.result) address
     (subst (λ (n : ℕ). IsRuledAnswer a.bits c.wrap-ip.result (drop 4 a.code.now) a.to n (tail_entries a.entries.now) a.rules c.detour_with.result) behind

@@ -1,8 +1,7 @@
-use Rattle.std.proofs.Common.{◌≡◌, ℕ, List, Option, length, Ok, ap, subst, sym, ◌∙◌}
-use Rattle.detour.specs.declared.parts.JumpForm.{JumpForm}
+use Rattle.std.proofs.Common.{◌≡◌, ℕ, List, Option, length, Ok, ap, subst, ◌∙◌}
 use Rattle.plain_spelling.specs.Values.{distance}
 use Rattle.detour.specs.Detours.{relay_behind}
-use Rattle.detour.specs.Padding.{jump_address, IsPaddingJump, IsPaddedMade}
+use Rattle.detour.specs.Padding.{jump_address, IsPaddingJump}
 use Rattle.detour.specs.PaddingParts.{IsShortTaken}
 use Rattle.detour.specs.Trampoline.{IsTrampoline}
 use Rattle.detour.proofs.Padded.{padded_made}
@@ -18,7 +17,7 @@ returns-in-Ok-lay_over c =
     let jump = c.in-Some.field-0 in
     let at : c.distance-at.result ≡ jump_address a.bits a.ip = c.distance-at.ensures ∙ ap (λ (n : ℕ). distance a.bits n a.ip) c.near_len.ensures in
     let behind : c.relay_behind-behind.result ≡ relay_behind a.place (length m.bytes) =
-        c.relay_behind-behind.ensures ∙ ap (λ (bs : List ℕ). relay_behind a.place (length bs)) c.bytes.ensures in
+    c.relay_behind-behind.ensures ∙ ap (λ (bs : List ℕ). relay_behind a.place (length bs)) c.bytes.ensures in
     let chosen : IsPaddingJump a.bits c.distance-at.result a.to c.relay_behind-behind.result jump.form jump.bytes.items jump.relay = c.in-Some.ensures in
     let there = subst (λ (n : ℕ). IsPaddingJump a.bits n a.to c.relay_behind-behind.result jump.form jump.bytes.items jump.relay) at chosen in
     let jumps = subst (λ (b : Option ℕ). IsPaddingJump a.bits (jump_address a.bits a.ip) a.to b jump.form jump.bytes.items jump.relay) behind there in

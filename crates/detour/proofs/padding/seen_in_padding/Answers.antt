@@ -14,13 +14,12 @@ returns c =
     let whole : c.deref.result.now ≡ a.padding.now ++ a.code.now = c.deref.ensures.value ∙ c.in_ok-whole.ensures in
     let entries : c.deref-2.result.now ≡ whole_entries len a.entries.now = c.deref-2.ensures.value ∙ c.in_ok-entries.ensures in
     let base : c.distance-base.result ≡ address_before a.bits a.ip len = c.distance-base.ensures in
-    let view = c.in_ok-view.view in
-    (
+    let view = c.in_ok-view.view in (
       view,
       (
         subst (λ (n : ℕ). IsView (code_bytes a.bits n (a.padding.now ++ a.code.now)) (whole_entries len a.entries.now) part view) base
-        (subst (λ (bs : List ℕ). IsView (code_bytes a.bits c.distance-base.result bs) (whole_entries len a.entries.now) part view) whole
-        (subst (λ (es : List ℕ). IsView (code_bytes a.bits c.distance-base.result c.deref.result.now) es part view) entries c.in_ok-view.ensures)),
+            (subst (λ (bs : List ℕ). IsView (code_bytes a.bits c.distance-base.result bs) (whole_entries len a.entries.now) part view) whole
+            (subst (λ (es : List ℕ). IsView (code_bytes a.bits c.distance-base.result c.deref.result.now) es part view) entries c.in_ok-view.ensures)),
         refl,
       ),
     )
