@@ -41,7 +41,7 @@ each_more P (q ∷ items) p h last zero lt = h zero (omega arith)
 each_more P (q ∷ items) p h last (suc k) lt = each_more P items p (λ j below. h (suc j) (omega (arith, below))) last k (omega (arith, lt))
 
 -- one more is read behind the others
-read_more : (bits : Bits) (ip : ℕ) (code : List ℕ) (offset : ℕ) (items : List Placed) (p : Placed) → AreReadFrom bits ip code offset items
+pub read_more : (bits : Bits) (ip : ℕ) (code : List ℕ) (offset : ℕ) (items : List Placed) (p : Placed) → AreReadFrom bits ip code offset items
     → (at : ℕ) → at ≡ offset + taken_bytes items → p.ip ≡ modulo_width bits (ip + at) → IsReadAt bits ip at (drop at code) (reading_of_item p)
     → AreReadFrom bits ip code offset (items ++ p ∷ [])
 read_more bits ip code offset [] p h at e address reads =

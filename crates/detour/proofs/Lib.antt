@@ -8,4 +8,7 @@ pub mod ReadBack
 pub mod Made
 pub mod Listed
 pub mod Ruling
+pub mod Keeping
+pub mod Short
+pub mod Padded
 pub mod HookSlots

@@ -37,7 +37,8 @@ if_some : (b : Bool) (x address : ℕ) → Some address ≡ (if b then Some x el
 if_some true x address e = cc
 if_some false x address e = absurd (cc)
 
-behind_there : (place len address : ℕ) → Some address ≡ relay_behind place len → address ≡ place + len
+-- the relay behind so many bytes at a place has the address behind them
+pub behind_there : (place len address : ℕ) → Some address ≡ relay_behind place len → address ≡ place + len
 unfolding relay_behind
 behind_there place len address e = if_some (nat_le (place + len + 14) (2 ^ 64)) (place + len) address e
 

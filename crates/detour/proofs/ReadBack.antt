@@ -28,7 +28,8 @@ in_first : (items : List Placed) (place k : ℕ) → k < length items → block_
 in_first items place k lt = rw (lt-ltb k (length items) lt) refl
 
 module _ (laws : DetourLawsBelow) where
-  near_read : (bits : Bits) (at target : ℕ) (bytes rest : List ℕ) → IsNearJump bits at target bytes → IsRead bits at (bytes ++ rest) (jump_reading bits target bytes)
+  -- a near jump is read, whatever stands behind it
+  pub near_read : (bits : Bits) (at target : ℕ) (bytes rest : List ℕ) → IsNearJump bits at target bytes → IsRead bits at (bytes ++ rest) (jump_reading bits target bytes)
   near_read bits at target bytes rest e =
       laws.encodings.plain-reads bits (modulo_width bits at) bytes rest (near_jump_to bits target)
       (laws.encodings.encoded-plain bits at (near_jump_to bits target) bytes (jump-four bits target) e)
@@ -47,11 +48,13 @@ module _ (laws : DetourLawsBelow) where
         (absolute_read laws ip to (replicate (taken - length (absolute_jump to)) 0xCC)),
   )
 
-  no_relay : (to place : ℕ) (block : List ℕ) (relay : Option ℕ) → relay ≡ None → IsRelayRead to place (length block) relay (block ++ relay_bytes relay to)
+  -- where there is no relay, none is read
+  pub no_relay : (to place : ℕ) (block : List ℕ) (relay : Option ℕ) → relay ≡ None → IsRelayRead to place (length block) relay (block ++ relay_bytes relay to)
   no_relay to place block relay none =
       subst (λ (r : Option ℕ). IsRelayRead to place (length block) r (block ++ relay_bytes r to)) (sym none) tt
 
-  relay_there : (to place : ℕ) (block : List ℕ) (relay : Option ℕ) (address : ℕ) → relay ≡ Some address → address ≡ place + length block
+  -- a relay behind the block is read as the jump to the replacement
+  pub relay_there : (to place : ℕ) (block : List ℕ) (relay : Option ℕ) (address : ℕ) → relay ≡ Some address → address ≡ place + length block
       → IsRelayRead to place (length block) relay (block ++ relay_bytes relay to)
   relay_there to place block relay address some there =
       subst (λ (r : Option ℕ). IsRelayRead to place (length block) r (block ++ relay_bytes r to)) (sym some) (

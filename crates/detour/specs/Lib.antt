@@ -10,5 +10,7 @@ pub mod ReadBack
 pub mod Detours
 pub mod Rules
 pub mod Kept
+pub mod Padding
+pub mod PaddingParts
 pub mod Made
 pub mod HookSlots

@@ -1,6 +1,6 @@
 //! A detour that keeps an ENDBR at the function's start.
 
-ghost use Rattle.std.specs.Prelude.{◌≡◌, ◌≤◌, ◌++◌, true, false, length, IsTrue, IfOk};
+ghost use Rattle.std.specs.Prelude.{◌≡◌, ◌≤◌, ◌++◌, true, false, length, IfOk};
 ghost use Rattle.detour.specs.Kept as spec;
 ghost use Rattle.detour.specs.Kept.{IsHeadPassage, IsTailAnswer, IsBehind, IsKeptBy, IsKeptAnswer, tail_entries};
 ghost use Rattle.detour.specs.declared.kept.KeepError.TheVariants as error;
@@ -98,8 +98,7 @@ impl KeptDetour {
 /// Whether some code begins with the ENDBR of the mode.
 #[tactic(auto, unfolding(crate::specs::Kept::has_endbr))]
 fn has_endbr(bits: Bits, code: &[u8]) -> bool
-    ensures value { result ≡ spec.has_endbr bits code.now }
-    ensures within { IsTrue result → 4 ≤ length code.now }
+    ensures { result ≡ spec.has_endbr bits code.now }
 {
     match bits {
         Bits::B16 => false,
@@ -311,7 +310,8 @@ fn keeping_none(
 /// };
 /// let (ip, to, place) = (0x40_1000, 0x50_0000, 0x60_0000);
 /// let made = detour_keeping_endbr(rt.alloc(), Bits::B64, ip, code, to, place, &[], rules)?;
-/// println!(rt; "{} {}", made.kept(), hex::encode(rt.alloc(), made.patch())?)?; // 4 e9f7ef0f00cc
+/// println!(rt; "{}", made.kept())?; // 4
+/// println!(rt; "{}", hex::encode(rt.alloc(), made.patch())?)?; // e9f7ef0f00cc
 /// println!(rt; "{}", hex::encode(rt.alloc(), made.trampoline())?)?; // f30f1efa554889e589f8e9fb0fe0ff
 /// ```
 pub fn detour_keeping_endbr(

@@ -6,6 +6,9 @@ ghost use Rattle.detour.specs.declared.error.DetourError.TheVariants.{Memory};
 ghost use Rattle.detour.specs.Detours as spec;
 ghost use Rattle.detour.specs.Detours.{IsRelay, IsRelayBehind, IsJumpOf, IsAnswerTo, IsDetourAnswer, relay_bytes};
 ghost use Rattle.block_encoder.specs.declared.error.PlanError.TheVariants as plan_error;
+ghost use Rattle.detour.specs.Calls as calls_spec;
+ghost use Rattle.detour.specs.Trampoline as trampoline_spec;
+ghost use Rattle.detour.specs.Trampoline.{IsTrampoline};
 ghost use Rattle.detour.specs.Made.{IsWholeTaken, IsFarJump, IsPutTogether, IsDetourLaid, detour_error_of};
 ghost use Rattle.detour.specs.Reading.{AreCoded, IsTakenFit};
 ghost use Rattle.detour.specs.Taken.{taken_bytes};
@@ -30,7 +33,7 @@ use std::alloc::{AllocError, Global};
 use x86_values::{Bits, wrap};
 
 /// The refusal of a moving.
-fn move_refusal(why: PlanError) -> DetourError
+pub(crate) fn move_refusal(why: PlanError) -> DetourError
     ensures { result ≡ detour_error_of why }
 {
     match why {
@@ -41,7 +44,7 @@ fn move_refusal(why: PlanError) -> DetourError
 }
 
 /// Returns the instructions that a jump of `need` bytes replaces, if only padding follows one that does not continue.
-fn take_whole(
+pub(crate) fn take_whole(
     alloc: Global,
     bits: Bits,
     ip: u64,
@@ -62,7 +65,7 @@ fn take_whole(
 
 /// Returns the address of a relay after `len` bytes at a place, if it ends inside the address space.
 #[tactic(auto, unfolding(crate::specs::Detours::relay_behind))]
-fn relay_behind(place: u64, len: usize) -> Option<u64>
+pub(crate) fn relay_behind(place: u64, len: usize) -> Option<u64>
     ensures { result ≡ spec.relay_behind place len }
 {
     let end = u128::from(place) + len as u128;
@@ -135,9 +138,9 @@ fn relay_address(
 /// A jump: its form, its bytes, and the address of its relay.
 #[derive(Drop)]
 pub(crate) struct Jump {
-    form: JumpForm,
-    bytes: ArrayVec<u8, 15>,
-    relay: Option<u64>,
+    pub(crate) form: JumpForm,
+    pub(crate) bytes: ArrayVec<u8, 15>,
+    pub(crate) relay: Option<u64>,
 }
 
 /// The jump to a relay that reaches it, else the one that is followed by its address.
@@ -287,6 +290,31 @@ fn put_together(
     }
 }
 
+/// The detour by a jump over what it takes, of what that is moved to.
+pub(crate) fn lay_over(
+    alloc: Global,
+    bits: Bits,
+    ip: u64,
+    to: u64,
+    place: u64,
+    rule: MoveRule,
+    jump: &Jump,
+    taken: &Taken,
+    moved: &MovedBlocks,
+) -> Result<Detour, DetourError>
+    requires fit { IsTakenFit bits taken.now }
+    requires fits { length jump.now.bytes.items ≤ taken.now.len }
+    requires block { IsTrampoline bits ip taken.now.items.items place rule moved.now }
+    ensures parts { IfOk result (λ d. IsPutTogether to place (trampoline_spec.goes_back rule bits taken.now.items.items)
+        (calls_spec.call_in rule bits taken.now.items.items) jump.now taken.now moved.now d) }
+    ensures refused { IfErr result (λ why. why ≡ Memory) }
+{
+    first_numbers_pass();
+    let back = goes_back(rule, bits, taken);
+    let call = call_in(rule, bits, taken);
+    put_together(alloc, to, place, back, call, jump, taken, moved)
+}
+
 /// The detour by a jump over what it takes, which nothing else enters.
 fn lay_detour(
     alloc: Global,
@@ -302,13 +330,8 @@ fn lay_detour(
     requires fits { length jump.now.bytes.items ≤ taken.now.len }
     ensures { IsDetourLaid bits ip to place rule jump.now taken.now result }
 {
-    first_numbers_pass();
     match lay_trampoline(alloc, bits, ip, taken, place, rule) {
-        Ok(moved) => {
-            let back = goes_back(rule, bits, taken);
-            let call = call_in(rule, bits, taken);
-            put_together(alloc, to, place, back, call, jump, taken, &moved)
-        }
+        Ok(moved) => lay_over(alloc, bits, ip, to, place, rule, jump, taken, &moved),
         Err(why) => Err(move_refusal(why)),
     }
 }

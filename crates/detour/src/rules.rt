@@ -192,7 +192,7 @@ fn judged(rules: HookRules, made: Detour, view: View) -> Result<SeenDetour, Rule
 }
 
 /// What the rules say of a detour.
-fn ruled(
+pub(crate) fn ruled(
     alloc: Global,
     bits: Bits,
     ip: u64,

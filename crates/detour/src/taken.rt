@@ -19,7 +19,12 @@ use std::alloc::Global;
 use x86_values::{Bits, wrap};
 
 /// The instruction at an offset of some code.
-fn read_item(bits: Bits, ip: u64, code: &[u8], offset: usize) -> Result<Placed, DetourError>
+pub(crate) fn read_item(
+    bits: Bits,
+    ip: u64,
+    code: &[u8],
+    offset: usize,
+) -> Result<Placed, DetourError>
     requires { offset < length code.now }
     ensures { IsItemRead bits ip code.now offset result }
 {
@@ -83,7 +88,7 @@ fn item_goes_on(item: &Placed) -> bool
 
 /// Returns whether an instruction only fills space after code: NOP of any length, or INT3.
 #[tactic(auto, unfolding(crate::specs::Taken::is_padding))]
-fn is_padding(item: &Placed) -> bool
+pub(crate) fn is_padding(item: &Placed) -> bool
     requires { item.now.instr.code.0 < ROWS }
     ensures { result ≡ spec.is_padding item.now }
 {

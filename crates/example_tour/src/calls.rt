@@ -7,7 +7,8 @@ use feddurzai::encoding::{encode, encoded_len};
 use feddurzai::flow::graph_of_code;
 use feddurzai::format::{Intel, Style, ascii_str, print_att};
 use feddurzai::hooks::{
-    HookRules, Hooks, StartRule, StartTarget, detour, detour_keeping_endbr, detour_with, look,
+    HookRules, Hooks, StartRule, StartTarget, detour, detour_keeping_endbr, detour_through_padding,
+    detour_with, look,
 };
 use feddurzai::info::{
     Features, FlagSet, all_memory, all_registers, flags_of, laws, needed_features,
@@ -254,12 +255,37 @@ fn hook_behind_endbr(rt: &HostRuntime) -> anyhow::Result<()> {
     };
     let (ip, to, place) = (0x40_1000, 0x50_0000, 0x60_0000);
     let made = detour_keeping_endbr(rt.alloc(), Bits::B64, ip, code, to, place, &[], rules)?;
-    println!(rt;
-        "{} {}",
-        made.kept(),
-        hex::encode(rt.alloc(), made.patch())?
-    )?; // 4 e9f7ef0f00cc
+    println!(rt; "{}", made.kept())?; // 4
+    println!(rt; "{}", hex::encode(rt.alloc(), made.patch())?)?; // e9f7ef0f00cc
     println!(rt; "{}", hex::encode(rt.alloc(), made.trampoline())?)?; // f30f1efa554889e589f8e9fb0fe0ff
+    Ok(())
+}
+
+/// Makes a patch of two parts, one of them in the padding in front of a function.
+fn hook_through_padding(rt: &HostRuntime) -> anyhow::Result<()> {
+    // five bytes of padding; then mov eax, edi; ret
+    let (padding, code) = (b"\xcc\xcc\xcc\xcc\xcc", b"\x89\xf8\xc3");
+    let rules = HookRules {
+        start: StartTarget::Moved,
+        whole: true,
+        returns: false,
+        calls: false,
+    };
+    let (ip, to, place) = (0x40_1000, 0x50_0000, 0x60_0000);
+    let made = detour_through_padding(
+        rt.alloc(),
+        Bits::B64,
+        ip,
+        padding,
+        code,
+        to,
+        place,
+        &[],
+        rules,
+    )?;
+    println!(rt; "{}", hex::encode(rt.alloc(), made.jump())?)?; // e900f00f00
+    println!(rt; "{}", hex::encode(rt.alloc(), made.patch())?)?; // ebf9
+    println!(rt; "{}", hex::encode(rt.alloc(), made.trampoline())?)?; // 89f8e9fb0fe0ff
     Ok(())
 }
 
@@ -318,6 +344,7 @@ pub fn run(rt: &HostRuntime) -> anyhow::Result<()> {
     see_function(rt)?;
     hook_by_rules(rt)?;
     hook_behind_endbr(rt)?;
+    hook_through_padding(rt)?;
     keep_hook(rt)?;
     list_function(rt)
 }

@@ -172,8 +172,9 @@ pub mod hooks {
         Hook, HookCommand, HookReply, Hooks, InstallError, MakeError, NotTaken, laws, replay,
     };
     pub use detour::{
-        Detour, DetourError, HookRules, JumpForm, KeepError, KeptDetour, Parts, RuleError,
-        SeenDetour, StartTarget, detour, detour_keeping_endbr, detour_with,
+        Detour, DetourError, HookRules, JumpForm, KeepError, KeptDetour, PaddedDetour,
+        PaddingError, Parts, RuleError, SeenDetour, StartTarget, detour, detour_keeping_endbr,
+        detour_through_padding, detour_with,
     };
     pub use flow_graph::hook_sight::{
         Passage, Sight, SightEnd, StartRule, View, laws as sight_laws, look,

@@ -3,5 +3,6 @@
 mod compare;
 mod hook_tests;
 mod kept_tests;
+mod padding_tests;
 mod rule_tests;
 mod tests;

@@ -33,7 +33,7 @@ const FRAME: &str = "f30f1efa554889e589f85dc3";
 /// endbr64; cmp byte [rdi], 0; je to 14; inc rdi; jmp to 4; ret
 const LOOP_BEHIND: &str = "f30f1efa803f00740548ffc7ebf6c3";
 
-/// Such a function whose jmp goes to the first byte
+/// Such a loop whose jmp goes to the first byte
 const LOOP_OVER: &str = "f30f1efa803f00740548ffc7ebf2c3";
 
 /// endbr64; dec ecx; jne to 4; ret
