@@ -107,6 +107,13 @@ fn has_endbr(bits: Bits, code: &[u8]) -> bool
     }
 }
 
+/// Returns how many first bytes of a function stay as they are if its ENDBR is kept: 4 if it begins with the ENDBR of the mode, else 0.
+pub fn kept_len(bits: Bits, code: &[u8]) -> usize
+    ensures { result ≡ spec.kept_len bits code.now }
+{
+    if has_endbr(bits, code) { ENDBR_LEN } else { 0 }
+}
+
 /// How control first goes into the kept bytes, as far as it is seen.
 fn head_passage(inside: Option<usize>, entered: Option<Passage>) -> Option<Passage>
     ensures { result ≡ spec.head_passage inside entered }

@@ -18,7 +18,7 @@ mod taken;
 mod trampoline;
 
 pub use error::DetourError;
-pub use kept::{KeepError, KeptDetour, detour_keeping_endbr};
+pub use kept::{KeepError, KeptDetour, detour_keeping_endbr, kept_len};
 pub use making::detour;
 pub use padding::{PaddedDetour, PaddingError, detour_through_padding};
 pub use parts::{Detour, JumpForm, Parts};
