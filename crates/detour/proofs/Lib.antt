@@ -8,4 +8,8 @@ pub mod ReadBack
 pub mod Made
 pub mod Listed
 pub mod Ruling
+pub mod SafeOrder
+pub mod Longest
+pub mod Enough
+pub mod Bounded
 pub mod HookSlots

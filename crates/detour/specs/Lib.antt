@@ -10,4 +10,7 @@ pub mod ReadBack
 pub mod Detours
 pub mod Rules
 pub mod Made
+pub mod LengthLaws
+pub mod Lengths
+pub mod Writes
 pub mod HookSlots

@@ -7,6 +7,7 @@ mod error;
 pub mod hook_slots;
 mod jumps;
 mod laws_below;
+pub mod lengths;
 mod making;
 mod parts;
 mod rules;
@@ -14,6 +15,7 @@ mod start;
 mod starts;
 mod taken;
 mod trampoline;
+pub mod writes;
 
 pub use error::DetourError;
 pub use making::detour;

@@ -41,7 +41,7 @@ fn move_refusal(why: PlanError) -> DetourError
 }
 
 /// Returns the instructions that a jump of `need` bytes replaces, if only padding follows one that does not continue.
-fn take_whole(
+pub(crate) fn take_whole(
     alloc: Global,
     bits: Bits,
     ip: u64,
