@@ -17,7 +17,7 @@ ROOT = Path(__file__).resolve().parent.parent
 
 # their proofs use only definitions and the public contracts of the crates below
 BY_CONTRACTS = [
-    "branch_sizes", "move_goals", "block_encoder", "code_items", "code_region", "step_slots", "flow_graph", "hook_sight", "detour", "byte_ports",
+    "branch_sizes", "move_goals", "block_encoder", "code_items", "code_region", "step_slots", "flow_graph", "detour", "byte_ports",
     "sweep", "command_words", "moving_run", "listing_run", "listing_program",
 ]
 
