@@ -188,13 +188,14 @@ fn len_under(
 /// If `rules.returns` is false, it is enough for the trampoline of [`detour`](crate::detour) too. The only error is lack of memory.
 ///
 /// ```
+/// let (ip, to) = (0x40_1000, 0x50_0000);
 /// let rules = HookRules {
 ///     start: StartTarget::Moved,
 ///     whole: true,
 ///     returns: true,
 ///     calls: false,
 /// };
-/// let room = detour_len(rt.alloc(), Bits::B64, 0x40_1000, &FUNCTION, 0x50_0000, rules)?;
+/// let room = detour_len(rt.alloc(), Bits::B64, ip, &FUNCTION, to, rules)?;
 /// println!(rt; "{room}")?; // 27
 /// ```
 pub fn detour_len(

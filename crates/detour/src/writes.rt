@@ -32,7 +32,7 @@ pub struct Write<'a> {
 /// The bytes that a patch replaced, written in this order, remove it again. For no bytes, each write has none, at offset 0.
 ///
 /// ```
-/// for write in writes_of(&[0xE9, 0xFB, 0xEF, 0x0F, 0x00]) {
+/// for write in writes_of(b"\xe9\xfb\xef\x0f\x00") {
 ///     println!(rt; "{} {:?}", write.offset, write.bytes)?; // 0 [204], 1 [251, 239, 15, 0], 0 [233]
 /// }
 /// ```
