@@ -2,5 +2,6 @@
 
 mod compare;
 mod hook_tests;
+mod length_tests;
 mod rule_tests;
 mod tests;
