@@ -1,6 +1,6 @@
 -- No trampoline, and no length of one, is more than 400 bytes: at most 14 instructions are taken, and each has at most 15 bytes and a slot.
 use Rattle.std.proofs.Common.{◌≡◌, ℕ, zero, suc, ◌+◌, ◌-◌, ◌*◌, ◌^◌, ◌<◌, ◌≤◌, inl, inr, Bool, true, false, List, [], ◌∷◌, ◌++◌, length, take, drop, map, Option, Some, None, Result, Ok, Err, refl, sym, subst, ap, ◌∙◌, arith}
-use Rattle.std.specs.Prelude.{◌&&◌, if◌then◌else◌, unwrap_or, slice_get, is_none, nat_le}
+use Rattle.std.specs.Prelude.{IfOk, ◌&&◌, if◌then◌else◌, unwrap_or, slice_get, is_none, nat_le}
 use Rattle.std.proofs.lemmas.Bool.{and_parts, leb-true}
 use Rattle.std.proofs.lemmas.List.{length-append, length-take-le}
 use Rattle.std.proofs.lemmas.List.Sums.{sum_by-cons, count_by-le-length}
@@ -34,12 +34,14 @@ use Rattle.detour.specs.declared.error.DetourError.{DetourError}
 use Rattle.detour.specs.declared.error.DetourError.TheVariants.{Memory, BadCode, TooSmall, Ends, Entered, Wraps, TooFar}
 use Rattle.detour.specs.declared.parts.JumpForm.{JumpForm}
 use Rattle.detour.specs.declared.parts.JumpForm.TheVariants.{Near, Relay, Absolute}
+use Rattle.detour.specs.declared.rules.HookRules.{HookRules}
 use Rattle.detour.specs.declared.start.MoveRule.{MoveRule}
 use Rattle.detour.specs.Jumps.{near_jump_to, IsNearJump}
 use Rattle.detour.specs.Taken.{AreReadFrom, AreTaken, taken_bytes, reading_of_item, first_end}
 use Rattle.detour.specs.Trampoline.{pushed_by, pushed_last, block_items}
 use Rattle.detour.specs.Detours.{DetourState, IsDetour, IsTakenAnswer, IsJumpOf, relay_bytes}
-use Rattle.detour.specs.Lengths.{greatest_length, images_length, slots_count, slots_length, block_length, IsLengthOf, IsTakenLength, with_relay, IsDetourLength}
+use Rattle.detour.specs.Rules.{move_rule}
+use Rattle.detour.specs.Lengths.{greatest_length, images_length, slots_count, slots_length, block_length, IsLengthOf, IsTakenLength, with_relay, IsDetourLength, IsLengthFor}
 use Rattle.detour.proofs.Front.{each_more}
 use Rattle.detour.proofs.Jumping.{near-five}
 use Rattle.detour.proofs.Planned.{count_within, block_few, block_placed, below_width}
@@ -284,3 +286,9 @@ module _ (laws : LengthLawsBelow) where
   length_short bits ip code to rule n (inr far) =
       let value = far.value in
       omega (arith, value, relay_most far.near, length_most bits ip code 5 rule far.near far.is_near, length_most bits ip code 14 rule far.far far.is_far)
+
+  -- nor is what a call answers
+  pub answer_short : {E : Type 0} (bits : Bits) (ip : ℕ) (code : List ℕ) (to : ℕ) (rules : HookRules) (r : Result ℕ E)
+      → IfOk r (λ n. IsLengthFor bits ip code to rules n) → IfOk r (λ n. n ≤ 400)
+  answer_short bits ip code to rules (Ok n) is = length_short bits ip code (modulo_width bits to) (move_rule rules) n is
+  answer_short bits ip code to rules (Err lost) is = tt

@@ -1,11 +1,12 @@
 -- The length of what is taken is one, and it is enough for every trampoline of it.
 use Rattle.std.proofs.Common.{◌≡◌, ℕ, suc, ◌+◌, ◌<◌, ◌≤◌, inl, inr, Bool, List, [], ◌∷◌, ◌++◌, length, drop, max, Option, Some, None, Result, Ok, Err, refl, sym, subst, ap, ◌∙◌, arith}
-use Rattle.std.specs.Prelude.{unwrap_or, slice_get, ◌&&◌, is_none, ◌-◌}
+use Rattle.std.specs.Prelude.{IfOk, false, unwrap_or, slice_get, ◌&&◌, is_none, ◌-◌}
 use Rattle.std.proofs.lemmas.List.{length-append}
 use Rattle.std.proofs.lemmas.List.Sums.{sum_by-cons}
 use Rattle.x86_values.specs.declared.Bits.{Bits}
 use Rattle.x86_values.specs.declared.Bits.TheVariants.{B64}
 use Rattle.x86_values.specs.declared.Decoded.{Decoded}
+use Rattle.x86_values.specs.Wrapping.{modulo_width}
 use Rattle.plain_spelling.specs.Values.{low_bytes}
 use Rattle.row_relation.specs.Spells.{Reading, Read}
 use Rattle.opcode_rows.specs.Sweep.{IsReadAt}
@@ -18,12 +19,14 @@ use Rattle.detour.specs.declared.error.DetourError.{DetourError}
 use Rattle.detour.specs.declared.error.DetourError.TheVariants.{Memory, BadCode, TooSmall, Ends, Entered, Wraps, TooFar}
 use Rattle.detour.specs.declared.parts.JumpForm.{JumpForm}
 use Rattle.detour.specs.declared.parts.JumpForm.TheVariants.{Near, Relay, Absolute}
+use Rattle.detour.specs.declared.rules.HookRules.{HookRules}
 use Rattle.detour.specs.declared.start.MoveRule.{MoveRule}
 use Rattle.detour.specs.Jumps.{IsNearJump, IsOutOfReach, absolute_jump}
 use Rattle.detour.specs.Taken.{AreReadFrom, AreTaken, taken_bytes, reading_of_item, first_code_behind, first_end}
 use Rattle.detour.specs.Trampoline.{pushed_by, pushed_last, block_by, block_items}
-use Rattle.detour.specs.Detours.{DetourState, IsDetour, IsTakenAnswer, IsJumpOf, relay_bytes}
-use Rattle.detour.specs.Lengths.{block_length, IsLengthOf, IsTakenLength, with_relay, IsNearLength, IsFarLength, IsDetourLength}
+use Rattle.detour.specs.Detours.{DetourState, IsDetour, IsTakenAnswer, IsJumpOf, relay_bytes, all_follow}
+use Rattle.detour.specs.Rules.{move_rule}
+use Rattle.detour.specs.Lengths.{block_length, IsLengthOf, IsTakenLength, with_relay, IsNearLength, IsFarLength, IsDetourLength, IsLengthFor, IsEnough, IsEnoughPlain}
 use Rattle.detour.proofs.Jumping.{near-five}
 use Rattle.detour.proofs.OnePlace.{item_same, one_reading, one_taken}
 use Rattle.detour.proofs.Longest.{trampoline_within}
@@ -138,3 +141,40 @@ enough laws bits ip code to place rule other same n is d made =
     let bytes = ap length made.trampoline in
     let both = length-append made.moved.bytes (relay_bytes made.jump.relay to) in
     omega (arith, short, block, bytes, both)
+
+-- ---- as the calls answer
+
+module _ {E : Type 0} where
+  module _ (bits : Bits) (ip : ℕ) (code : List ℕ) (need : ℕ) (rule : MoveRule) where
+    untaken : (why : DetourError) → IsTakenAnswer bits ip code need (Err why) → (why ≡ Memory → ⊥) → IsTakenLength bits ip code need rule None
+    untaken Memory h other = absurd (other refl)
+    untaken (BadCode at error) h other = (Err (BadCode at error), (h, refl))
+    untaken (TooSmall size wanted) h other = (Err (TooSmall size wanted), (h, refl))
+    untaken (Ends at) h other = (Err (Ends at), (h, refl))
+    untaken (Entered from target) h other = absurd h
+    untaken (Wraps end) h other = absurd h
+    untaken (TooFar at target) h other = absurd h
+
+    -- there is no length if nothing can be taken, for another cause than memory
+    pub length_untaken : (why : DetourError) → IsTakenAnswer bits ip code need (Err why) → (r : Result (Option ℕ) E)
+        → IfOk r (λ len. (len ≡ None) × (why ≡ Memory → ⊥)) → IfOk r (λ len. IsTakenLength bits ip code need rule len)
+    length_untaken why h (Ok len) none = subst (λ (x : Option ℕ). IsTakenLength bits ip code need rule x) (sym none.0) (untaken why h none.1)
+    length_untaken why h (Err lost) none = tt
+
+  -- a length for a jump that crosses any distance is one
+  pub far_is_one : (bits : Bits) (ip : ℕ) (code : List ℕ) (to : ℕ) (rule : MoveRule) (r : Result ℕ E) → IfOk r (λ n. IsFarLength bits ip code to rule n)
+      → IfOk r (λ n. IsDetourLength bits ip code to rule n)
+  far_is_one bits ip code to rule (Ok n) is = inr is
+  far_is_one bits ip code to rule (Err lost) is = tt
+
+  module _ (laws : DetourLawsBelow) (bits : Bits) (ip : ℕ) (code : List ℕ) (to : ℕ) (rules : HookRules) where
+    -- **it is enough by these rules**
+    pub enough_for : (r : Result ℕ E) → IfOk r (λ n. IsLengthFor bits ip code to rules n) → IfOk r (λ n. IsEnough bits ip code to rules n)
+    enough_for (Ok n) is = λ place d made. enough laws bits ip code (modulo_width bits to) place (move_rule rules) (move_rule rules) refl n is d made
+    enough_for (Err lost) is = tt
+
+    -- **and without rules, if calls stay calls**
+    pub enough_plain : rules.returns ≡ false → (r : Result ℕ E) → IfOk r (λ n. IsLengthFor bits ip code to rules n) → IfOk r (λ n. IsEnoughPlain bits ip code to n)
+    enough_plain stay (Ok n) is =
+        λ place start d made. enough laws bits ip code (modulo_width bits to) place (move_rule rules) (all_follow start) (sym stay) n is d made
+    enough_plain stay (Err lost) is = tt

@@ -72,6 +72,7 @@ end_suc : (at bytes n : ℕ) → end_with at bytes (suc n) ≡ (at + bytes + 7) 
 end_suc at bytes n =
     ap (λ (b : Bool). if b then at + bytes else (at + bytes + 7) / 8 * 8 + 8 * suc n) (ne_eqb (suc n) 0 (λ e. absurd (omega (arith, e))))
 
+-- a slot more, with the gap in front
 pub slots_suc : (n : ℕ) → slots_length (suc n) ≡ 7 + 8 * suc n
 slots_suc n = ap (λ (b : Bool). if b then 0 else 7 + 8 * suc n) (ne_eqb (suc n) 0 (λ e. absurd (omega (arith, e))))
 

@@ -37,6 +37,16 @@ after-are k code p ps = ap (λ (ws : List WriteState). written_by (take k ws) co
 one-more : (n x : ℕ) (xs : List ℕ) → drop (1 + n) (x ∷ xs) ≡ drop n xs
 one-more n x xs = let e : 1 + n ≡ suc n = omega arith in ap (λ (m : ℕ). drop m (x ∷ xs)) e
 
+-- **the writes, by their bytes**
+pub writes_made : (bytes : List ℕ) (n : ℕ) (stop first others : List ℕ) → n ≡ first_count bytes → stop ≡ take n (0xCC ∷ []) → first ≡ take n bytes
+    → others ≡ drop n bytes → write_at 0 stop ∷ write_at n others ∷ write_at 0 first ∷ [] ≡ writes_of bytes
+unfolding writes_of
+writes_made bytes n stop first others count s f o =
+    ap (λ (xs : List ℕ). write_at 0 xs ∷ write_at n others ∷ write_at 0 first ∷ []) s
+    ∙ (ap (λ (xs : List ℕ). write_at 0 (take n (0xCC ∷ [])) ∷ write_at n xs ∷ write_at 0 first ∷ []) o
+    ∙ (ap (λ (xs : List ℕ). write_at 0 (take n (0xCC ∷ [])) ∷ write_at n (drop n bytes) ∷ write_at 0 xs ∷ []) f
+    ∙ ap (λ (m : ℕ). three m bytes (0xCC ∷ [])) count))
+
 -- ---- what stands after them
 
 after-none : (code patch : List ℕ) → after_writes 0 code patch ≡ code

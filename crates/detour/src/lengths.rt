@@ -1,7 +1,7 @@
 //! How long a trampoline may become, before its place is known.
 
-ghost use Rattle.std.specs.Prelude.{◌≡◌, ◌+◌, ◌*◌, ◌<◌, ◌≤◌, ◌^◌, if◌then◌else◌, false, length, unwrap_or, IfOk};
-ghost use Rattle.move_goals.specs.Items.{item_at};
+ghost use Rattle.std.specs.Prelude.{◌≡◌, ◌<◌, ◌≤◌, ◌^◌, if◌then◌else◌, false, None, length, unwrap_or, IfOk};
+ghost use Rattle.detour.specs.declared.error.DetourError.TheVariants.{Memory};
 ghost use Rattle.detour.specs.Jumps.{IsOutOfReach};
 ghost use Rattle.detour.specs.LengthLaws.{LengthLawsBelow};
 ghost use Rattle.detour.specs.Lengths as spec;
@@ -106,6 +106,17 @@ fn moved_len(
     Ok(block_len(bits, &items))
 }
 
+/// Returns that there is no length, if nothing is taken for any cause except lack of memory.
+fn no_len_for(why: DetourError) -> Result<Option<usize>, AllocError>
+    ensures none { IfOk result (λ len. (len ≡ None) × (why ≡ Memory → ⊥)) }
+    ensures small { IfOk result (λ len. unwrap_or len 0 < 2 ^ 32) }
+{
+    match why {
+        DetourError::Memory => Err(AllocError),
+        _ => Ok(None),
+    }
+}
+
 /// Returns the most bytes of the block of what a jump of `need` bytes takes, if it takes anything.
 fn taken_len(
     alloc: Global,
@@ -120,12 +131,8 @@ fn taken_len(
     ensures small { IfOk result (λ len. unwrap_or len 0 < 2 ^ 32) }
 {
     match take_whole(alloc, bits, ip, code, need) {
-        Ok(taken) => match moved_len(alloc, bits, ip, &taken, rule) {
-            Ok(len) => Ok(Some(len)),
-            Err(_) => Err(AllocError),
-        },
-        Err(DetourError::Memory) => Err(AllocError),
-        Err(_) => Ok(None),
+        Ok(taken) => Ok(Some(moved_len(alloc, bits, ip, &taken, rule)?)),
+        Err(why) => no_len_for(why),
     }
 }
 

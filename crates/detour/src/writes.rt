@@ -1,6 +1,6 @@
 //! The order in which a patch is written over code that other processors may run.
 
-ghost use Rattle.std.specs.Prelude.{◌≡◌, ℕ, ◌<◌, ◌≤◌, List, length, map};
+ghost use Rattle.std.specs.Prelude.{◌≡◌, ℕ, ◌<◌, ◌≤◌, List, [], ◌∷◌, length, take, map};
 ghost use Rattle.x86_values.specs.declared.Bits.{Bits as Mode};
 ghost use Rattle.detour.specs.declared.start.MoveRule.{MoveRule as Rule};
 ghost use Rattle.detour.specs.Detours.{IsDetour};
@@ -20,6 +20,14 @@ pub struct Write<'a> {
     pub offset: usize,
     /// The bytes. There may be none.
     pub bytes: &'a [u8],
+}
+
+/// Returns as many bytes INT3 as are asked for, one at most.
+fn stop_bytes(count: usize) -> &'static [u8]
+    requires { count ≤ 1 }
+    ensures { result.now ≡ take count (0xCC ∷ []) }
+{
+    &INT3[..count]
 }
 
 /// Returns the writes that put `bytes` over the first bytes of a function, in order: INT3 over the first byte, the other bytes after it, then the first
@@ -44,7 +52,7 @@ pub fn writes_of(bytes: &[u8]) -> [Write<'_>; 3]
     let (first, others) = bytes.split_at(count);
     let stop = Write {
         offset: 0,
-        bytes: &INT3[..count],
+        bytes: stop_bytes(count),
     };
     let behind = Write {
         offset: count,
