@@ -1,6 +1,7 @@
 -- What stands after each of the writes of a patch, and that a patch has a byte.
-use Rattle.std.proofs.Common.{◌≡◌, ℕ, zero, suc, ◌+◌, ◌-◌, ◌<◌, ◌≤◌, List, [], ◌∷◌, ◌++◌, length, take, drop, replicate, min, Option, refl, ap, sym, subst, ◌∙◌, arith}
-use Rattle.std.proofs.lemmas.List.{length-append, length-replicate, length-take-le, take-append-drop}
+use Rattle.std.proofs.Common.{◌≡◌, ℕ, zero, suc, ◌+◌, ◌-◌, ◌<◌, ◌≤◌, inl, inr, List, [], ◌∷◌, ◌++◌, length, get_or, take, drop, replicate, min, Option, refl, ap, sym, subst, ◌∙◌, arith}
+use Rattle.std.specs.Prelude.{◌⊎◌}
+use Rattle.std.proofs.lemmas.List.{ext_get_or, length-append, length-replicate, length-take-le, take-append-drop}
 use Rattle.std.proofs.Math.Seq.{drop-append_seam}
 use Rattle.x86_values.specs.declared.Bits.{Bits}
 use Rattle.move_goals.specs.MovedTargets.Targets.{plain_length}
@@ -14,7 +15,7 @@ use Rattle.detour.specs.declared.start.MoveRule.{MoveRule}
 use Rattle.detour.specs.Jumps.{near_jump_to, IsNearJump, absolute_jump}
 use Rattle.detour.specs.Taken.{taken_bytes}
 use Rattle.detour.specs.Detours.{DetourState, IsDetour, IsJumpOf, patch_of}
-use Rattle.detour.specs.Writes.{WriteState, write_at, first_count, writes_of, written, written_by, after_writes, IsSafeOrder, IsPatchSafe}
+use Rattle.detour.specs.Writes.{WriteState, write_at, first_count, writes_of, written, written_by, after_writes, IsBetween, IsSafe, IsSafeOrder, IsPatchSafe}
 
 -- ---- the writes
 
@@ -83,6 +84,54 @@ taken-back code patch some within =
     ∙ (ap (λ (xs : List ℕ). old ++ xs) (drop-append_seam patch rest)
     ∙ take-append-drop (length patch) code)))
 
+-- ---- in the midst of a write
+
+either : (a b c : ℕ) → (a ≡ b) ⊎ (a ≡ c) → b ≡ c → a ≡ b
+either a b c (inl h) same = h
+either a b c (inr h) same = h ∙ sym same
+
+-- where two states differ in the first byte alone, some bytes between them are one of them
+one-of-two : (x y : ℕ) (rest now : List ℕ) → IsBetween (x ∷ rest) (y ∷ rest) now → (now ≡ x ∷ rest) ⊎ (now ≡ y ∷ rest)
+one-of-two x y rest [] h = let e = h.len in absurd (omega (arith, e))
+one-of-two x y rest (b ∷ now) h =
+    let len : length now ≡ length rest = (let e = h.len in omega (arith, e)) in
+    let same : now ≡ rest = ext_get_or 0 now rest len (λ i lt. either _ _ _ (h.each (suc i) (omega (arith, lt, len))) refl) in
+    elim (h.each 0 (omega arith)) [
+      | inl e ↦ inl (ap (λ (n : ℕ). n ∷ now) e ∙ ap (λ (xs : List ℕ). x ∷ xs) same)
+      | inr e ↦ inr (ap (λ (n : ℕ). n ∷ now) e ∙ ap (λ (xs : List ℕ). y ∷ xs) same)
+    ]
+
+-- where both begin with one byte, so do bytes between them
+front-stays : (x : ℕ) (old new now : List ℕ) → IsBetween (x ∷ old) (x ∷ new) now → take 1 now ≡ x ∷ []
+front-stays x old new [] h = let e = h.len in absurd (omega (arith, e))
+front-stays x old new (b ∷ now) h = ap (λ (n : ℕ). n ∷ []) (either _ _ _ (h.each 0 (omega arith)) refl)
+
+stopped-front : (rest now : List ℕ) → now ≡ 0xCC ∷ rest → take 1 now ≡ 0xCC ∷ []
+stopped-front rest now e = ap (λ (xs : List ℕ). take 1 xs) e
+
+module _ (b : ℕ) (code : List ℕ) (p : ℕ) (ps : List ℕ) (now : List ℕ) where
+  between-by : (old new : List ℕ) → (k : ℕ) → after_writes k (b ∷ code) (p ∷ ps) ≡ old → after_writes (k + 1) (b ∷ code) (p ∷ ps) ≡ new
+      → IsBetween (after_writes k (b ∷ code) (p ∷ ps)) (after_writes (k + 1) (b ∷ code) (p ∷ ps)) now → IsBetween old new now
+  between-by old new k e f h =
+      subst (λ (xs : List ℕ). IsBetween old xs now) f (subst (λ (xs : List ℕ). IsBetween xs (after_writes (k + 1) (b ∷ code) (p ∷ ps)) now) e h)
+
+  amid : (k : ℕ) → k < 3 → IsBetween (after_writes k (b ∷ code) (p ∷ ps)) (after_writes (k + 1) (b ∷ code) (p ∷ ps)) now → IsSafe (b ∷ code) (p ∷ ps) now
+  amid zero lt h =
+      elim (one-of-two b 0xCC code now (between-by (b ∷ code) (0xCC ∷ code) 0 (after-none (b ∷ code) (p ∷ ps)) (after-one b code p ps) h)) [
+        | inl old ↦ inl old
+        | inr stop ↦ inr (inl (stopped-front code now stop))
+      ]
+  amid (suc zero) lt h =
+      inr (inl (front-stays 0xCC code (ps ++ drop (length ps) code) now
+      (between-by (0xCC ∷ code) (0xCC ∷ (ps ++ drop (length ps) code)) 1 (after-one b code p ps) (after-two b code p ps) h)))
+  amid (suc (suc zero)) lt h =
+      let rest = ps ++ drop (length ps) code in
+      elim (one-of-two 0xCC p rest now (between-by (0xCC ∷ rest) (p ∷ rest) 2 (after-two b code p ps) (after-three b code p ps) h)) [
+        | inl stop ↦ inr (inl (stopped-front rest now stop))
+        | inr new ↦ inr (inr new)
+      ]
+  amid (suc (suc (suc k))) lt h = absurd (omega (arith, lt))
+
 -- **the writes of some bytes are in a safe order**
 pub safe_order : (patch : List ℕ) → 0 < length patch → (code : List ℕ) → length patch ≤ length code → IsSafeOrder code patch
 safe_order [] some code within = absurd (omega (arith, some))
@@ -92,6 +141,7 @@ safe_order (p ∷ ps) some (b ∷ code) within = record {
   stopped = after-one b code p ps;
   filled = after-two b code p ps;
   done = all-done (b ∷ code) (p ∷ ps) some within;
+  amid = λ k lt now h. amid b code p ps now k lt h;
   removed = taken-back (b ∷ code) (p ∷ ps) some within;
 }
 

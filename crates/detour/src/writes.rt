@@ -33,9 +33,9 @@ fn stop_bytes(count: usize) -> &'static [u8]
 /// Returns the writes that put `bytes` over the first bytes of a function, in order: INT3 over the first byte, the other bytes after it, then the first
 /// byte.
 ///
-/// After the first and after the second write the function begins with INT3. So a processor that comes to its first byte finds the old bytes, INT3, or all
-/// the new ones, if it sees the writes in this order; between two of them the caller makes sure of that, as by serializing each processor. INT3 raises a
-/// breakpoint trap there, and its handler goes back to the function's first byte.
+/// At each moment all bytes are old, or the first one is INT3, or all are new: after each write, and in the midst of one, whichever of its bytes are there
+/// already. A processor that runs the function must see the writes in this order, so between two of them the caller serializes each processor. One that runs
+/// INT3 traps, and the handler of that trap sends it back to the function's first byte.
 ///
 /// The bytes that a patch replaced, written in this order, remove it again. For no bytes, each write has none, at offset 0.
 ///
