@@ -21,7 +21,8 @@ use Rattle.detour.specs.declared.parts.JumpForm.{JumpForm}
 use Rattle.detour.specs.declared.parts.JumpForm.TheVariants.{Near, Relay, Absolute}
 use Rattle.detour.specs.declared.rules.HookRules.{HookRules}
 use Rattle.detour.specs.declared.start.MoveRule.{MoveRule}
-use Rattle.detour.specs.Jumps.{IsNearJump, IsOutOfReach, absolute_jump}
+use Rattle.encoder.specs.Encoding.{encoding}
+use Rattle.detour.specs.Jumps.{near_jump_to, IsNearJump, IsOutOfReach, absolute_jump}
 use Rattle.detour.specs.Taken.{AreReadFrom, AreTaken, taken_bytes, reading_of_item, first_code_behind, first_end}
 use Rattle.detour.specs.Trampoline.{pushed_by, pushed_last, block_by, block_items}
 use Rattle.detour.specs.Detours.{DetourState, IsDetour, IsTakenAnswer, IsJumpOf, relay_bytes, all_follow}
@@ -108,7 +109,9 @@ module _ (laws : DetourLawsBelow) (bits : Bits) (ip : ℕ) (code : List ℕ) whe
         → AreTaken bits ip code (length bytes) items → (n : ℕ) → IsDetourLength bits ip code to rule n
         → block_length bits (block_items other bits ip items) + length (relay_bytes relay to) ≤ n
     enough_by Near bytes relay h are n (inl near) =
-        let one : bytes ≡ near.bytes = cc (h.0, near.jump) in
+        let there : encoding bits ip (near_jump_to bits to) ≡ Ok bytes = h.0 in
+        let here : encoding bits ip (near_jump_to bits to) ≡ Ok near.bytes = near.jump in
+        let one : bytes ≡ near.bytes = cc (there, here) in
         let taken = subst (λ (bs : List ℕ). AreTaken bits ip code (length bs) items) one are in
         let len = ap (λ (o : Option ℕ). unwrap_or o 0) (taken_length (length near.bytes) rule other same items taken whole near.len near.is_len) in
         let none : length (relay_bytes relay to) ≡ 0 = ap (λ (r : Option ℕ). length (relay_bytes r to)) h.1 in

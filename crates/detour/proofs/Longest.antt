@@ -8,7 +8,7 @@ use Rattle.std.proofs.Math.Seq.{take-length}
 use Rattle.x86_values.specs.declared.Bits.{Bits}
 use Rattle.branch_sizes.specs.declared.plan.Choice.{Choice}
 use Rattle.branch_sizes.specs.declared.plan.Goal.{Goal}
-use Rattle.branch_sizes.specs.Plan.{BlockPlan, no_choice}
+use Rattle.branch_sizes.specs.Plan.{no_choice}
 use Rattle.branch_sizes.specs.Layout.{IsLayout, total, span_at, item_choice, image_length}
 use Rattle.branch_sizes.specs.MoveLayout.Laid.{has_far_form, is_far_at, goal_address, has_number, with_goal, far_goals, slots_of, next_eighth, images_end, new_end}
 use Rattle.move_goals.specs.BranchForms.Choices.{choices_of}
@@ -110,9 +110,6 @@ next_is n = omega arith
 
 module _ (laws : DetourLawsBelow) (bits : Bits) (items : List Placed) (at : ℕ) (goals : ℕ → Goal) (layout : List ℕ)
     (fit : IsLayout (plan_with bits (one_span items at) items goals) layout) where
-  plan : BlockPlan
-  plan = plan_with bits (one_span items at) items goals
-
   -- an image is not longer than the longest of its instruction
   image_short : (k : ℕ) → k < length items
       → image_length (plan_with bits (one_span items at) items goals) layout k ≤ greatest_length (choices_of bits (item_at items k).instr)
