@@ -68,10 +68,13 @@ indirect_four : (bits : Bits) (i : Instr) (o : Option Operand) → HasFour (indi
 indirect_four bits i None j e = absurd cc
 indirect_four bits i (Some op) j e = same_four _ j refl e
 
+none_four : HasFour None
+none_four j e = absurd cc
+
 four_if : (a b : Bool) (x y : Option Instr) → HasFour x → HasFour y → HasFour (if a then x else (if b then y else None))
 four_if true b x y h g = h
 four_if false true x y h g = g
-four_if false false x y h g j e = absurd cc
+four_if false false x y h g = none_four
 
 jump_four : (bits : Bits) (i : Instr) → HasFour (jump_of bits i)
 unfolding jump_of
