@@ -1,5 +1,5 @@
 -- What stands after each of the writes of a patch, and that a patch has a byte.
-use Rattle.std.proofs.Common.{◌≡◌, ℕ, zero, suc, ◌+◌, ◌-◌, ◌<◌, ◌≤◌, inl, inr, List, [], ◌∷◌, ◌++◌, length, get_or, take, drop, replicate, min, Option, refl, ap, sym, subst, ◌∙◌, arith}
+use Rattle.std.proofs.Common.{◌≡◌, ℕ, zero, suc, ◌+◌, ◌-◌, ◌<◌, ◌≤◌, inl, inr, List, [], ◌∷◌, ◌++◌, length, get_or, take, drop, replicate, min, Option, None, refl, ap, sym, subst, ◌∙◌, arith}
 use Rattle.std.specs.Prelude.{◌⊎◌}
 use Rattle.std.proofs.lemmas.List.{ext_get_or, length-append, length-replicate, length-take-le, take-append-drop}
 use Rattle.std.proofs.Math.Seq.{drop-append_seam}
@@ -150,8 +150,9 @@ safe_order (p ∷ ps) some (b ∷ code) within = record {
 patch-long : (jump : List ℕ) (taken : ℕ) → length jump ≤ taken → length (patch_of jump taken) ≡ taken
 unfolding patch_of
 patch-long jump taken fits =
-    let filled : length (replicate (taken - length jump) 0xCC) ≡ taken - length jump = length-replicate (taken - length jump) 0xCC in
-    omega (arith, length-append jump (replicate (taken - length jump) 0xCC), filled, fits)
+    let fill : List ℕ = replicate (taken - length jump) 0xCC in
+    let filled : length fill ≡ taken - length jump = length-replicate (taken - length jump) 0xCC in
+    omega (arith, length-append jump fill, filled, fits)
 
 module _ (laws : DetourLawsBelow) where
   near-some : (bits : Bits) (at t : ℕ) (bytes : List ℕ) → IsNearJump bits at t bytes → 0 < length bytes
