@@ -147,21 +147,22 @@ enough laws bits ip code to place rule other same n is d made =
 
 -- ---- as the calls answer
 
+module _ (bits : Bits) (ip : ℕ) (code : List ℕ) (need : ℕ) (rule : MoveRule) where
+  untaken : (why : DetourError) → IsTakenAnswer bits ip code need (Err why) → (why ≡ Memory → ⊥) → IsTakenLength bits ip code need rule None
+  untaken Memory h other = absurd (other refl)
+  untaken (BadCode at error) h other = (Err (BadCode at error), (h, refl))
+  untaken (TooSmall size wanted) h other = (Err (TooSmall size wanted), (h, refl))
+  untaken (Ends at) h other = (Err (Ends at), (h, refl))
+  untaken (Entered from target) h other = absurd h
+  untaken (Wraps end) h other = absurd h
+  untaken (TooFar at target) h other = absurd h
+
 module _ {E : Type 0} where
   module _ (bits : Bits) (ip : ℕ) (code : List ℕ) (need : ℕ) (rule : MoveRule) where
-    untaken : (why : DetourError) → IsTakenAnswer bits ip code need (Err why) → (why ≡ Memory → ⊥) → IsTakenLength bits ip code need rule None
-    untaken Memory h other = absurd (other refl)
-    untaken (BadCode at error) h other = (Err (BadCode at error), (h, refl))
-    untaken (TooSmall size wanted) h other = (Err (TooSmall size wanted), (h, refl))
-    untaken (Ends at) h other = (Err (Ends at), (h, refl))
-    untaken (Entered from target) h other = absurd h
-    untaken (Wraps end) h other = absurd h
-    untaken (TooFar at target) h other = absurd h
-
     -- there is no length if nothing can be taken, for another cause than memory
     pub length_untaken : (why : DetourError) → IsTakenAnswer bits ip code need (Err why) → (r : Result (Option ℕ) E)
         → IfOk r (λ len. (len ≡ None) × (why ≡ Memory → ⊥)) → IfOk r (λ len. IsTakenLength bits ip code need rule len)
-    length_untaken why h (Ok len) none = subst (λ (x : Option ℕ). IsTakenLength bits ip code need rule x) (sym none.0) (untaken why h none.1)
+    length_untaken why h (Ok len) none = subst (λ (x : Option ℕ). IsTakenLength bits ip code need rule x) (sym none.0) (untaken bits ip code need rule why h none.1)
     length_untaken why h (Err lost) none = tt
 
   -- a length for a jump that crosses any distance is one

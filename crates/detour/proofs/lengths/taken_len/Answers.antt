@@ -4,10 +4,10 @@ use Rattle.detour.specs.Made.{IsWholeTaken}
 use Rattle.detour.proofs.Enough.{length_untaken}
 use Rattle.detour.proofs.lengths.taken_len.Goals as goal
 
-pub returns-in-Ok-clause-value : goal.returns-in-Ok-clause-value
-returns-in-Ok-clause-value c =
+pub returns-in_ok-moved_len-in-Ok-clause-value : goal.returns-in_ok-moved_len-in-Ok-clause-value
+returns-in_ok-moved_len-in-Ok-clause-value c =
     let h : IsWholeTaken c.args.bits c.args.ip c.args.code.now c.args.need (Ok c.in-Ok.taken) = c.in-Ok.ensures in
-    (Ok c.in-Ok.taken.items.items, (h.1, ap Some c.in_ok-moved_len.ensures.value))
+    (Ok c.in-Ok.taken.items.items, (h.1, ap Some c.in_ok-moved_len-in-Ok.ensures.value))
 
 pub returns-in-Err-clause-value : goal.returns-in-Err-clause-value
 returns-in-Err-clause-value c =
