@@ -10,7 +10,7 @@ use crate::hooks::MOST;
 use crate::numbers::bits_numbered;
 use crate::refusal::{Refusal, refusal_status};
 use crate::ruled::rules_numbered;
-use detour::detour_len;
+use detour::lengths::detour_len;
 use std::alloc::Global;
 
 /// A length, or why there is none.

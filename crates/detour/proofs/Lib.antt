@@ -11,4 +11,8 @@ pub mod Ruling
 pub mod Keeping
 pub mod Short
 pub mod Padded
+pub mod SafeOrder
+pub mod Longest
+pub mod Enough
+pub mod Bounded
 pub mod HookSlots

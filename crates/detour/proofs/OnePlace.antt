@@ -28,7 +28,8 @@ decoded_same d e h = cc
 abbrev item_made : ℕ → ℕ → Instr → Placed
 item_made at len i = record { ip = at; len = len; instr = i }
 
-item_same : (p q : Placed) → p.ip ≡ q.ip → reading_of_item p ≡ reading_of_item q → p ≡ q
+-- items with one address and one reading are one
+pub item_same : (p q : Placed) → p.ip ≡ q.ip → reading_of_item p ≡ reading_of_item q → p ≡ q
 item_same p q at reading =
     let d = decoded_same (record { instr = p.instr; len = p.len }) (record { instr = q.instr; len = q.len }) reading in
     ap (λ (n : ℕ). item_made n p.len p.instr) at ∙ ap (λ (x : Decoded). item_made q.ip x.len x.instr) d
@@ -43,7 +44,8 @@ unfolding relay_behind
 behind_there place len address e = if_some (nat_le (place + len + 14) (2 ^ 64)) (place + len) address e
 
 module _ (laws : DetourLawsBelow) (bits : Bits) where
-  one_reading : (ip offset : ℕ) (bytes : List ℕ) (a b : Reading) → IsReadAt bits ip offset bytes a → IsReadAt bits ip offset bytes b → a ≡ b
+  -- bytes at an offset have one reading
+  pub one_reading : (ip offset : ℕ) (bytes : List ℕ) (a b : Reading) → IsReadAt bits ip offset bytes a → IsReadAt bits ip offset bytes b → a ≡ b
   unfolding IsReadAt
   one_reading ip offset bytes a b h k = laws.readings.reading_same bits (ip + offset) bytes a b h k
 
@@ -63,7 +65,8 @@ module _ (laws : DetourLawsBelow) (bits : Bits) where
       (λ k lt. let f = fewest' (suc k) (omega (arith, lt)) in omega (arith, f, len, sum_by-cons (λ (x : Placed). x.len) q (take k b))) in
       ap (λ (x : Placed). x ∷ a) same ∙ ap (λ (xs : List Placed). q ∷ xs) rest
 
-  one_taken : (ip : ℕ) (code : List ℕ) (need : ℕ) (a b : List Placed) → AreTaken bits ip code need a → AreTaken bits ip code need b → a ≡ b
+  -- what is taken for so many bytes is one
+  pub one_taken : (ip : ℕ) (code : List ℕ) (need : ℕ) (a b : List Placed) → AreTaken bits ip code need a → AreTaken bits ip code need b → a ≡ b
   one_taken ip code need a b h k = one_front ip code need 0 a b h.read k.read h.enough k.enough h.fewest k.fewest
 
   -- what is moved by one plan has the same bytes

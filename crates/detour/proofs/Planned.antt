@@ -192,7 +192,8 @@ placed_both bits [] others h g k lt = g k lt
 placed_both bits (p ∷ items) others h g zero lt = h zero (omega arith)
 placed_both bits (p ∷ items) others h g (suc k) lt = placed_both bits items others (λ j below. h (suc j) (omega (arith, below))) g k (omega (arith, lt))
 
-below_width : (bits : Bits) (x : ℕ) → modulo_width bits x < 2 ^ width bits
+-- an address of the mode is one
+pub below_width : (bits : Bits) (x : ℕ) → modulo_width bits x < 2 ^ width bits
 below_width B16 x = omega arith
 below_width B32 x = omega arith
 below_width B64 x = omega arith

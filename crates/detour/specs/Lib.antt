@@ -13,4 +13,7 @@ pub mod Kept
 pub mod Padding
 pub mod PaddingParts
 pub mod Made
+pub mod LengthLaws
+pub mod Lengths
+pub mod Writes
 pub mod HookSlots

@@ -8,6 +8,7 @@ pub mod hook_slots;
 mod jumps;
 mod kept;
 mod laws_below;
+pub mod lengths;
 mod making;
 mod padding;
 mod parts;
@@ -16,6 +17,7 @@ mod start;
 mod starts;
 mod taken;
 mod trampoline;
+pub mod writes;
 
 pub use error::DetourError;
 pub use kept::{KeepError, KeptDetour, detour_keeping_endbr, kept_len};

@@ -95,7 +95,7 @@ fn items_and_call(
 
 /// Returns the instructions of the trampoline: the moved ones, and the jump back or what does the call at the end.
 #[tactic(auto, unfolding(crate::specs::Trampoline::block_items))]
-fn block_items(
+pub(crate) fn block_items(
     alloc: Global,
     rule: MoveRule,
     bits: Bits,

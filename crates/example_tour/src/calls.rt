@@ -7,8 +7,8 @@ use feddurzai::encoding::{encode, encoded_len};
 use feddurzai::flow::graph_of_code;
 use feddurzai::format::{Intel, Style, ascii_str, print_att};
 use feddurzai::hooks::{
-    HookRules, Hooks, StartRule, StartTarget, detour, detour_keeping_endbr, detour_through_padding,
-    detour_with, look,
+    HookRules, Hooks, StartRule, StartTarget, detour, detour_keeping_endbr, detour_len,
+    detour_through_padding, detour_with, look, writes_of,
 };
 use feddurzai::info::{
     Features, FlagSet, all_memory, all_registers, flags_of, laws, needed_features,
@@ -289,6 +289,28 @@ fn hook_through_padding(rt: &HostRuntime) -> anyhow::Result<()> {
     Ok(())
 }
 
+/// Says how many bytes are enough for a trampoline, wherever it will be placed.
+fn reserve_trampoline(rt: &HostRuntime) -> anyhow::Result<()> {
+    let (ip, to) = (0x40_1000, 0x50_0000);
+    let rules = HookRules {
+        start: StartTarget::Moved,
+        whole: true,
+        returns: true,
+        calls: false,
+    };
+    let room = detour_len(rt.alloc(), Bits::B64, ip, &FUNCTION, to, rules)?;
+    println!(rt; "{room}")?; // 27
+    Ok(())
+}
+
+/// Shows in which order a patch is written.
+fn order_writes(rt: &HostRuntime) -> anyhow::Result<()> {
+    for write in writes_of(b"\xe9\xfb\xef\x0f\x00") {
+        println!(rt; "{} {:?}", write.offset, write.bytes)?; // 0 [204], 1 [251, 239, 15, 0], 0 [233]
+    }
+    Ok(())
+}
+
 /// Keeps a hook in a range of trampolines.
 fn keep_hook(rt: &HostRuntime) -> anyhow::Result<()> {
     let mut hooks = Hooks::make(rt.alloc(), Bits::B64, 0x60_0000, 4096, 64)?;
@@ -332,6 +354,12 @@ fn run_effects(rt: &HostRuntime) -> anyhow::Result<()> {
     show_row(rt)
 }
 
+/// Runs the examples about what a hook's author needs before and after a detour is made.
+fn run_writing(rt: &HostRuntime) -> anyhow::Result<()> {
+    reserve_trampoline(rt)?;
+    order_writes(rt)
+}
+
 /// Runs all examples.
 pub fn run(rt: &HostRuntime) -> anyhow::Result<()> {
     run_reading(rt)?;
@@ -345,6 +373,7 @@ pub fn run(rt: &HostRuntime) -> anyhow::Result<()> {
     hook_by_rules(rt)?;
     hook_behind_endbr(rt)?;
     hook_through_padding(rt)?;
+    run_writing(rt)?;
     keep_hook(rt)?;
     list_function(rt)
 }

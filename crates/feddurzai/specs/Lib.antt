@@ -82,6 +82,8 @@ pub use Rattle.detour.specs.Starts as MovedStarts
 pub use Rattle.detour.specs.Rules as HookRules
 pub use Rattle.detour.specs.Kept as KeptHooks
 pub use Rattle.detour.specs.Padding as PaddingHooks
+pub use Rattle.detour.specs.Lengths as TrampolineLengths
+pub use Rattle.detour.specs.Writes as PatchWrites
 pub use Rattle.detour.specs.HookSlots.State as HookState
 pub use Rattle.detour.specs.HookSlots.Opening as HookOpening
 pub use Rattle.detour.specs.HookSlots.Installing as HookInstalls

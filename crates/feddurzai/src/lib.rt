@@ -166,11 +166,14 @@ pub mod flow {
 /// Hooks: what is written over the first bytes of a function, and the trampoline that does what they did; and those that are live, with their trampolines in
 /// a range of addresses. `laws` has that these stay apart, each with its bytes, after any list of installs and removals. `look` returns what is seen of the
 /// function: how far control can be followed, and what goes into the overwritten bytes; `sight_laws` is about that. `detour_with` makes a detour only
-/// where nothing that is seen speaks against it.
+/// where nothing that is seen speaks against it. `detour_len` returns how many bytes are enough for its trampoline at any place. `writes_of` returns the order
+/// in which bytes are written over code that other processors may run.
 pub mod hooks {
     pub use detour::hook_slots::{
         Hook, HookCommand, HookReply, Hooks, InstallError, MakeError, NotTaken, laws, replay,
     };
+    pub use detour::lengths::{MAX_TRAMPOLINE, detour_len, trampolines_are_short};
+    pub use detour::writes::{Write, writes_of};
     pub use detour::{
         Detour, DetourError, HookRules, JumpForm, KeepError, KeptDetour, PaddedDetour,
         PaddingError, Parts, RuleError, SeenDetour, StartTarget, detour, detour_keeping_endbr,

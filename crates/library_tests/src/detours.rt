@@ -3,6 +3,7 @@
 mod compare;
 mod hook_tests;
 mod kept_tests;
+mod length_tests;
 mod padding_tests;
 mod rule_tests;
 mod tests;
