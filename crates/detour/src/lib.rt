@@ -9,6 +9,7 @@ mod jumps;
 mod laws_below;
 mod making;
 mod parts;
+mod ranges;
 mod rules;
 mod start;
 mod starts;

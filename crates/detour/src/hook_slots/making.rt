@@ -1,13 +1,16 @@
 //! A hook, and its place in the region.
 
-ghost use Rattle.std.specs.Prelude.{◌≡◌, ◌<◌, ◌≤◌, Ok, IfOk, IfErr, length, take};
+ghost use Rattle.std.specs.Prelude.{◌≡◌, ◌<◌, ◌≤◌, Ok, IfOk, IfErr, find, length, option_map, take};
 ghost use Rattle.code_region.specs.Keeping.{IsSound};
 ghost use Rattle.detour.specs.Detours.{IsDetourAnswer};
+ghost use Rattle.detour.specs.HookSlots.State.{hook_place};
+ghost use Rattle.detour.specs.HookSlots.Patches as spec;
 ghost use Rattle.detour.specs.HookSlots.Installing.{IsHookAnswer, IsHookPlaced, IsForSlots, install_refusal, place_refusal as place_refusal_of};
 ghost use Rattle.detour.specs.HookSlots.Keeping.{AreSpaced};
 
 use crate::hook_slots::laws_below::laws_below;
 use crate::hook_slots::refusals::InstallError;
+use crate::ranges::overlaps;
 use crate::{Detour, DetourError, StartTarget, detour};
 use code_region::live_entries::LiveEntry;
 use code_region::{PlaceError, Region};
@@ -54,6 +57,47 @@ impl LiveEntry for Hook {
     ghost block_len = { λ s hook block is. is.len };
 }
 
+/// The range of the trampolines in a mode, in slots of one size.
+#[derive(Clone, Copy)]
+pub(crate) struct SlotRange {
+    pub(crate) bits: Bits,
+    pub(crate) base: u64,
+    pub(crate) size: u64,
+    pub(crate) slot: u64,
+}
+
+/// Returns whether `len` bytes at `ip` have an address in common with the patch of a hook.
+fn meets_patch(bits: Bits, ip: u64, len: usize, hook: &Hook) -> bool
+    ensures { result ≡ spec.meets_patch bits ip len hook.now }
+{
+    overlaps(bits, ip, len, hook.ip, hook.detour.patch().len())
+}
+
+/// Returns the place of the first live hook whose patch has an address in common with `len` bytes at `ip`.
+fn first_met(bits: Bits, ip: u64, len: usize, live: &[Hook]) -> Option<u64>
+    ensures { result ≡ option_map hook_place (find (spec.meets_patch bits ip len) live.now) }
+{
+    'hooks: for hook in live {
+        if meets_patch(bits, ip, len, hook) {
+            return Some(hook.place);
+        }
+    }
+    None
+}
+
+/// Returns the first cause against a patch of `len` bytes at `ip`.
+fn patch_refusal(range: SlotRange, live: &[Hook], ip: u64, len: usize) -> Option<InstallError>
+    ensures { result ≡ spec.patch_refusal range live.now ip len }
+{
+    if overlaps(range.bits, ip, len, range.base, range.size as usize) {
+        return Some(InstallError::InRange);
+    }
+    match first_met(range.bits, ip, len, live) {
+        None => None,
+        Some(place) => Some(InstallError::Patched { place }),
+    }
+}
+
 /// A copy of some bytes.
 fn copy_of(alloc: Global, bytes: &[u8]) -> Result<Vec<u8>, AllocError>
     ensures { IfOk result (λ copy. copy.items ≡ bytes.now) }
@@ -73,11 +117,11 @@ fn detour_refusal(why: DetourError) -> InstallError
     }
 }
 
-/// Returns the hook of a function with its trampoline at a place, if the trampoline fits a slot.
+/// Returns the hook of a function with its trampoline at a place, if the trampoline fits a slot and the patch meets nothing.
 fn hook_at(
     alloc: Global,
-    bits: Bits,
-    slot: u64,
+    range: SlotRange,
+    live: &[Hook],
     ip: u64,
     code: &[u8],
     to: u64,
@@ -85,15 +129,21 @@ fn hook_at(
     place: u64,
 ) -> Result<Hook, InstallError>
     requires { length code.now ≤ 1048576 }
-    ensures { IsHookAnswer bits slot ip code.now to start place result }
+    ensures { IsHookAnswer range live.now ip code.now to start place result }
 {
-    let detour = match detour(alloc, bits, ip, code, to, place, start) {
+    let detour = match detour(alloc, range.bits, ip, code, to, place, start) {
         Ok(detour) => detour,
         Err(why) => return Err(detour_refusal(why)),
     };
     let len = detour.trampoline().len() as u64;
-    if len > slot {
-        return Err(InstallError::TooLong { len, slot });
+    if len > range.slot {
+        return Err(InstallError::TooLong {
+            len,
+            slot: range.slot,
+        });
+    }
+    if let Some(why) = patch_refusal(range, live, ip, detour.patch().len()) {
+        return Err(why);
     }
     let Ok(original) = copy_of(alloc, &code[..detour.taken()]) else {
         return Err(InstallError::Memory);
@@ -122,9 +172,9 @@ fn place_refusal(why: PlaceError) -> InstallError
 /// Hooks a function, with its trampoline in a slot of the region, which it fills.
 pub(crate) fn place_hook(
     alloc: Global,
-    bits: Bits,
-    slot: u64,
+    range: SlotRange,
     region: &mut Region,
+    live: &[Hook],
     ip: u64,
     code: &[u8],
     to: u64,
@@ -132,15 +182,15 @@ pub(crate) fn place_hook(
 ) -> Result<Hook, InstallError>
     requires size { length code.now ≤ 1048576 }
     requires sound { IsSound region.old }
-    requires slots { AreSpaced slot region.old }
-    ensures { IsHookPlaced bits slot region.old ip code.now to start result region.new }
+    requires slots { AreSpaced range.slot region.old }
+    ensures { IsHookPlaced range live.now region.old ip code.now to start result region.new }
 {
     laws_below();
-    let place = match region.place(slot) {
+    let place = match region.place(range.slot) {
         Ok(place) => place,
         Err(why) => return Err(place_refusal(why)),
     };
-    match hook_at(alloc, bits, slot, ip, code, to, start, place) {
+    match hook_at(alloc, range, live, ip, code, to, start, place) {
         Ok(hook) => {
             region.fill(place, hook.detour.trampoline());
             Ok(hook)
