@@ -17,7 +17,7 @@ use Rattle.code_region.specs.LiveEntries.Keeping.{AreLive}
 use Rattle.code_region.specs.LiveEntries.Facts.{LiveFacts}
 use Rattle.detour.specs.declared.start.StartTarget.{StartTarget}
 use Rattle.detour.specs.declared.hook_slots.making.Hook.{Hook}
-use Rattle.detour.specs.declared.hook_slots.making.SlotRange.{SlotRange}
+use Rattle.detour.specs.declared.hook_slots.patches.SlotRange.{SlotRange}
 use Rattle.detour.specs.declared.hook_slots.refusals.InstallError.{InstallError}
 use Rattle.detour.specs.declared.hook_slots.refusals.InstallError.TheVariants.{Memory, Full, NoDetour, TooLong, InRange, Patched}
 use Rattle.detour.specs.HookSlots.State.{HooksState, hook_place, no_hooks, with_hook, hook_at}

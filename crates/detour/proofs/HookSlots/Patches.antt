@@ -8,7 +8,7 @@ use Rattle.code_region.specs.State.{RegionState}
 use Rattle.detour.specs.Ranges.{is_within, overlaps}
 use Rattle.detour.specs.declared.start.StartTarget.{StartTarget}
 use Rattle.detour.specs.declared.hook_slots.making.Hook.{Hook}
-use Rattle.detour.specs.declared.hook_slots.making.SlotRange.{SlotRange}
+use Rattle.detour.specs.declared.hook_slots.patches.SlotRange.{SlotRange}
 use Rattle.detour.specs.declared.hook_slots.refusals.InstallError.{InstallError}
 use Rattle.detour.specs.declared.hook_slots.refusals.InstallError.TheVariants.{Memory, Full, NoDetour, TooLong, InRange, Patched}
 use Rattle.detour.specs.HookSlots.State.{hook_place, with_hook}

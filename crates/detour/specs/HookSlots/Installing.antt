@@ -11,7 +11,7 @@ use Rattle.detour.specs.declared.error.DetourError.TheVariants as detour_error
 use Rattle.detour.specs.declared.start.StartTarget.{StartTarget}
 use Rattle.detour.specs.Detours.{DetourState, IsDetourAnswer}
 use Rattle.detour.specs.declared.hook_slots.making.Hook.{Hook}
-use Rattle.detour.specs.declared.hook_slots.making.SlotRange.{SlotRange}
+use Rattle.detour.specs.declared.hook_slots.patches.SlotRange.{SlotRange}
 use Rattle.detour.specs.declared.hook_slots.refusals.InstallError.{InstallError}
 use Rattle.detour.specs.declared.hook_slots.refusals.InstallError.TheVariants.{Memory, Full, NoDetour, TooLong, InRange, Patched}
 use Rattle.detour.specs.HookSlots.State.{HooksState, range_of, with_hook}

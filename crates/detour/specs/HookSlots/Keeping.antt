@@ -4,7 +4,7 @@ use Rattle.x86_values.specs.declared.Bits.{Bits}
 use Rattle.code_region.specs.State.{LiveBlock, RegionState, int3}
 use Rattle.code_region.specs.LiveEntries.Keeping.{AreLive}
 use Rattle.detour.specs.declared.hook_slots.making.Hook.{Hook}
-use Rattle.detour.specs.declared.hook_slots.making.SlotRange.{SlotRange}
+use Rattle.detour.specs.declared.hook_slots.patches.SlotRange.{SlotRange}
 use Rattle.detour.specs.HookSlots.State.{HooksState}
 use Rattle.detour.specs.HookSlots.Patches.{PatchesAreApart}
 use Rattle.detour.specs.HookSlots.Holding.{HasDetour}

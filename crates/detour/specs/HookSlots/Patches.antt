@@ -4,7 +4,7 @@ use Rattle.x86_values.specs.declared.Bits.{Bits}
 use Rattle.code_region.specs.State.{RegionState}
 use Rattle.detour.specs.Ranges.{overlaps}
 use Rattle.detour.specs.declared.hook_slots.making.Hook.{Hook}
-use Rattle.detour.specs.declared.hook_slots.making.SlotRange.{SlotRange}
+use Rattle.detour.specs.declared.hook_slots.patches.SlotRange.{SlotRange}
 use Rattle.detour.specs.declared.hook_slots.refusals.InstallError.{InstallError}
 use Rattle.detour.specs.declared.hook_slots.refusals.InstallError.TheVariants.{InRange, Patched}
 

@@ -5,7 +5,7 @@ use Rattle.code_region.specs.State.{RegionState}
 use Rattle.code_region.specs.Opening.{empty_region}
 use Rattle.code_region.specs.LiveEntries.Order.{with_entry, live_entry}
 use Rattle.detour.specs.declared.hook_slots.making.Hook.{Hook}
-use Rattle.detour.specs.declared.hook_slots.making.SlotRange.{SlotRange}
+use Rattle.detour.specs.declared.hook_slots.patches.SlotRange.{SlotRange}
 
 -- the mode, the size of a slot, the region, and the live hooks by address
 pub record HooksState : Type 0 where

@@ -11,7 +11,8 @@ ghost use Rattle.detour.specs.HookSlots.Holding.{HooksAreApart, AreDetours, Hold
 
 use crate::StartTarget;
 use crate::hook_slots::laws_below::laws_below;
-use crate::hook_slots::making::{Hook, SlotRange, place_hook};
+use crate::hook_slots::making::{Hook, place_hook};
+use crate::hook_slots::patches::SlotRange;
 use crate::hook_slots::refusals::{InstallError, MakeError};
 use code_region::live_entries::{insert_entry, remove_entry};
 use code_region::{NotTaken, Region};
