@@ -22,7 +22,7 @@ use Rattle.detour.specs.declared.hook_slots.refusals.InstallError.{InstallError}
 use Rattle.detour.specs.declared.hook_slots.refusals.InstallError.TheVariants.{Memory, Full, NoDetour, TooLong, InRange, Patched}
 use Rattle.detour.specs.HookSlots.State.{HooksState, hook_place, no_hooks, with_hook, hook_at}
 use Rattle.detour.specs.HookSlots.Opening.{make_refusal}
-use Rattle.detour.specs.HookSlots.Patches.{PatchesAreApart}
+use Rattle.detour.specs.HookSlots.Patches.{patch_refusal, PatchesAreApart}
 use Rattle.detour.specs.HookSlots.Installing.{IsHookPlaced, place_refusal, hooks_after, IsInstalled}
 use Rattle.detour.specs.HookSlots.Removing.{remove_of, remove_answer, without_hook, after_removal}
 use Rattle.detour.specs.declared.hook_slots.commands.HookCommand.{HookCommand}
@@ -133,7 +133,9 @@ module _ (laws : HookLawsBelow) (bits : Bits) (slot : ℕ) (region : RegionState
     pub install-kept : (more : ℕ) → room ≤ more → (after : List Hook) → after ≡ with_hook hook hooks → AreHooksKept bits slot new after more
     unfolding now
     install-kept more roomy after same =
-        let clear = patches-with bits region hooks kept.patches slot hook made.0.1.1 in
+        let range : SlotRange = record { bits = bits; base = region.base; size = region.size; slot = slot } in
+        let clear = patches-with bits region hooks kept.patches slot hook
+        (subst (λ (n : ℕ). patch_refusal range hooks n (length hook.detour.patch) ≡ None) (sym made.0.1.0.0.ip_is) made.0.1.1) in
         let on_now : AreHooksKept bits slot now (with_hook hook hooks) more = record {
           spaced = spaced_now;
           live = live_now more roomy;
