@@ -38,7 +38,12 @@ fn first_met(bits: Bits, ip: u64, len: usize, live: &[Hook]) -> Option<u64>
 }
 
 /// Returns the first cause against a patch of `len` bytes at `ip`.
-pub(crate) fn patch_refusal(range: SlotRange, live: &[Hook], ip: u64, len: usize) -> Option<InstallError>
+pub(crate) fn patch_refusal(
+    range: SlotRange,
+    live: &[Hook],
+    ip: u64,
+    len: usize,
+) -> Option<InstallError>
     ensures { result ≡ spec.patch_refusal range live.now ip len }
 {
     if overlaps(range.bits, ip, len, range.base, range.size as usize) {

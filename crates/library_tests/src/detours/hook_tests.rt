@@ -365,13 +365,7 @@ const REFUSED: &[(Function, InstallError)] = &[
         },
         InstallError::TooLong { len: 27, slot: 16 },
     ),
-    (
-        Function {
-            ip: 0x9000,
-            ..NEAR
-        },
-        InstallError::InRange,
-    ),
+    (Function { ip: 0x9000, ..NEAR }, InstallError::InRange),
 ];
 
 #[test]
