@@ -23,7 +23,7 @@ use Rattle.detour.specs.declared.hook_slots.refusals.InstallError.TheVariants.{M
 use Rattle.detour.specs.HookSlots.State.{HooksState, hook_place, no_hooks, with_hook, hook_at}
 use Rattle.detour.specs.HookSlots.Opening.{make_refusal}
 use Rattle.detour.specs.HookSlots.Patches.{patch_refusal, PatchesAreApart}
-use Rattle.detour.specs.HookSlots.Installing.{IsHookPlaced, place_refusal, hooks_after, IsInstalled}
+use Rattle.detour.specs.HookSlots.Installing.{IsHookPlaced, place_refusal, install_place, hooks_after, IsInstalled}
 use Rattle.detour.specs.HookSlots.Removing.{remove_of, remove_answer, without_hook, after_removal}
 use Rattle.detour.specs.declared.hook_slots.commands.HookCommand.{HookCommand}
 use Rattle.detour.specs.declared.hook_slots.commands.HookCommand.TheVariants.{Install, Remove}
@@ -321,6 +321,24 @@ module _ (laws : HookLawsBelow) (range : SlotRange) (region : RegionState) (hook
       size = install-size laws range.bits range.slot region hooks room held.kept ip code to start hook new in_region ∙ held.size;
       kept = install-kept laws range.bits range.slot region hooks room held.kept ip code to start hook new in_region more roomy after same;
     }
+
+  -- what an install leaves
+  pub held-installed : (ip : ℕ) (code : List ℕ) (to : ℕ) (start : StartTarget) (made : Result Hook InstallError) (new : RegionState)
+      → IsHookPlaced range hooks region ip code to start made new → (old : HooksState)
+      → record { bits = range.bits; slot = range.slot; region = region; hooks = hooks } ≡ old → (said : Result ℕ InstallError) → said ≡ install_place made
+      → (after : List Hook) → after ≡ hooks_after made hooks
+      → IsInstalled old ip code to start said (record { bits = range.bits; slot = range.slot; region = new; hooks = after })
+  held-installed ip code to start made new placed old seen said answer after same =
+      let state : HooksState = record { bits = range.bits; slot = range.slot; region = new; hooks = after } in
+      subst (λ (s : HooksState). IsInstalled s ip code to start said state) seen (record {
+        bits = refl;
+        slot = refl;
+        made = made;
+        answer = answer;
+        region =
+            subst (λ (r : SlotRange). IsHookPlaced r hooks region ip code to start made new) (held-range range region held.base held.size) placed;
+        hooks = same;
+      })
 
   -- a removal
   pub held-without : (place : ℕ) (new : RegionState) → new ≡ after_release region place → (left : List Hook) → left ≡ without_hook place hooks
