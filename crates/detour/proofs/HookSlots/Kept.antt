@@ -20,7 +20,7 @@ use Rattle.detour.specs.declared.hook_slots.making.Hook.{Hook}
 use Rattle.detour.specs.declared.hook_slots.patches.SlotRange.{SlotRange}
 use Rattle.detour.specs.declared.hook_slots.refusals.InstallError.{InstallError}
 use Rattle.detour.specs.declared.hook_slots.refusals.InstallError.TheVariants.{Memory, Full, NoDetour, TooLong, InRange, Patched}
-use Rattle.detour.specs.HookSlots.State.{HooksState, hook_place, no_hooks, with_hook, hook_at}
+use Rattle.detour.specs.HookSlots.State.{HooksState, range_of, hook_place, no_hooks, with_hook, hook_at}
 use Rattle.detour.specs.HookSlots.Opening.{make_refusal}
 use Rattle.detour.specs.HookSlots.Patches.{patch_refusal, PatchesAreApart}
 use Rattle.detour.specs.HookSlots.Installing.{IsHookPlaced, place_refusal, install_place, hooks_after, IsInstalled}
@@ -370,7 +370,7 @@ module _ (laws : HookLawsBelow) (old : HooksState) (kept : AreKeptIn old) where
 
   module _ (ip : ℕ) (code : List ℕ) (to : ℕ) (start : StartTarget) where
     -- the region and the hooks after an install
-    after-kept : (made : Result Hook InstallError) (region : RegionState) → IsHookPlaced old.bits old.slot old.region ip code to start made region
+    after-kept : (made : Result Hook InstallError) (region : RegionState) → IsHookPlaced (range_of old) old.hooks old.region ip code to start made region
         → (hooks : List Hook) → hooks ≡ hooks_after made old.hooks → AreHooksKept old.bits old.slot region hooks region.max_blocks
     after-kept (Ok hook) region placed_there hooks same =
         let max = install-max laws old.bits old.slot old.region old.hooks old.region.max_blocks kept ip code to start hook region placed_there in
