@@ -1,2 +1,4 @@
 pub mod Spaced
+pub mod Lists
+pub mod Patches
 pub mod Kept

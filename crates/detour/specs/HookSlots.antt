@@ -1,5 +1,6 @@
 pub mod State
 pub mod Opening
+pub mod Patches
 pub mod Installing
 pub mod Removing
 pub mod Running

@@ -16,7 +16,8 @@ use Rattle.detour.specs.declared.rules.RuleError.TheVariants as rule_error
 use Rattle.detour.specs.declared.rules.HookRules.{HookRules}
 use Rattle.detour.specs.declared.rules.SeenDetour.{SeenDetour}
 use Rattle.detour.specs.declared.start.StartTarget.{StartTarget}
-use Rattle.detour.specs.Rules.{overlaps, rule_of, IsRuledAnswer}
+use Rattle.detour.specs.Ranges.{overlaps}
+use Rattle.detour.specs.Rules.{rule_of, IsRuledAnswer}
 
 -- ---- the kept bytes
 

@@ -8,6 +8,7 @@ pub mod Trampoline
 pub mod Calls
 pub mod ReadBack
 pub mod Detours
+pub mod Ranges
 pub mod Rules
 pub mod Kept
 pub mod Padding

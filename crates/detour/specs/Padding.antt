@@ -41,7 +41,8 @@ use Rattle.detour.specs.Jumps.{IsNearJump, IsOutOfReach}
 use Rattle.detour.specs.Trampoline.{IsTrampoline, goes_back, block_items, trampoline_plan}
 use Rattle.detour.specs.ReadBack.{IsPatchRead, IsRelayRead, IsTrampolineRead}
 use Rattle.detour.specs.Detours.{DetourState, IsTakenAnswer, patch_of, relay_bytes, relay_behind, parts_of}
-use Rattle.detour.specs.Rules.{overlaps, move_rule, IsAllowed, IsRuled}
+use Rattle.detour.specs.Ranges.{overlaps}
+use Rattle.detour.specs.Rules.{move_rule, IsAllowed, IsRuled}
 
 -- ---- the two jumps
 

@@ -1,9 +1,8 @@
 -- A detour by rules: nothing that is seen of the function speaks against it, and its trampoline stands apart from the code.
-use Rattle.std.specs.Prelude.{◌≡◌, ℕ, nat_lt, Bool, true, false, ◌&&◌, ◌||◌, if◌then◌else◌, List, length, Option, Some, None, Result, Ok, Err, IsTrue}
+use Rattle.std.specs.Prelude.{◌≡◌, ℕ, Bool, true, false, if◌then◌else◌, List, length, Option, Some, None, Result, Ok, Err, IsTrue}
 use Rattle.std.specs.Option.{option_or}
 use Rattle.x86_values.specs.declared.Bits.{Bits}
 use Rattle.x86_values.specs.Wrapping.{modulo_width}
-use Rattle.plain_spelling.specs.Values.{distance}
 use Rattle.flow_graph.specs.Control.{code_bytes}
 use Rattle.flow_graph.specs.declared.hook_sight.answers.Passage.{Passage}
 use Rattle.flow_graph.specs.declared.hook_sight.answers.Sight.{Sight}
@@ -23,6 +22,7 @@ use Rattle.detour.specs.declared.start.StartTarget.{StartTarget}
 use Rattle.detour.specs.declared.start.StartTarget.TheVariants.{Moved, Hooked}
 use Rattle.detour.specs.declared.start.MoveRule.{MoveRule}
 use Rattle.detour.specs.Detours.{DetourState, IsAnswerTo}
+use Rattle.detour.specs.Ranges.{overlaps}
 
 -- ---- how the instructions are moved
 
@@ -35,15 +35,6 @@ abbrev pub IsMade : Bits → ℕ → List ℕ → ℕ → ℕ → HookRules → 
 IsMade bits ip code to place rules answer = IsAnswerTo bits ip code (modulo_width bits to) place (move_rule rules) answer
 
 -- ---- where the trampoline stands
-
--- an address is one of so many from another on, in the mode
-abbrev pub is_within : Bits → ℕ → ℕ → ℕ → Bool
-is_within bits base len at = nat_lt (distance bits base at) len
-
--- two ranges have an address in common: neither is empty, and one begins within the other; addresses wrap
-unfoldable pub overlaps : Bits → ℕ → ℕ → ℕ → ℕ → Bool
-overlaps bits ip len place other =
-    nat_lt 0 len && (nat_lt 0 other && (is_within bits ip len place || is_within bits place other ip))
 
 -- the trampoline would stand in the given bytes of the function
 abbrev pub lies_in : Bits → ℕ → List ℕ → ℕ → DetourState → Bool

@@ -5,6 +5,7 @@ mod hooking;
 pub mod laws;
 mod laws_below;
 mod making;
+mod patches;
 mod refusals;
 
 pub use code_region::NotTaken;

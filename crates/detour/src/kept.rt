@@ -7,7 +7,8 @@ ghost use Rattle.detour.specs.declared.kept.KeepError.TheVariants as error;
 
 use crate::error::DetourError;
 use crate::parts::Detour;
-use crate::rules::{HookRules, RuleError, SeenDetour, detour_with, overlaps, rule_of};
+use crate::ranges::overlaps;
+use crate::rules::{HookRules, RuleError, SeenDetour, detour_with, rule_of};
 use crate::start::StartTarget;
 use flow_graph::FlowError;
 use flow_graph::hook_sight::{Passage, look};

@@ -12,6 +12,7 @@ pub mod lengths;
 mod making;
 mod padding;
 mod parts;
+mod ranges;
 mod rules;
 mod start;
 mod starts;

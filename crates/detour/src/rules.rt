@@ -8,10 +8,10 @@ ghost use Rattle.detour.specs.declared.rules.RuleError.TheVariants as error;
 use crate::error::DetourError;
 use crate::making::detour_under;
 use crate::parts::Detour;
+use crate::ranges::overlaps;
 use crate::start::{MoveRule, StartTarget};
 use flow_graph::FlowError;
 use flow_graph::hook_sight::{Passage, Sight, SightEnd, StartRule, View, look};
-use plain_spelling::numbers::distance;
 use std::alloc::Global;
 use thiserror::Error;
 use x86_values::Bits;
@@ -67,21 +67,6 @@ pub struct SeenDetour {
     pub detour: Detour,
     /// What was seen of the function with the detour's patch over its first bytes.
     pub view: View,
-}
-
-/// Whether an address is one of the `len` addresses from another one on, in a mode.
-fn is_within(bits: Bits, base: u64, len: usize, at: u64) -> bool
-    ensures { result ≡ spec.is_within bits base len at }
-{
-    distance(bits, base, at) < len as u64
-}
-
-/// Whether two ranges of addresses of a mode have an address in common.
-#[tactic(auto, using(std::proofs::lemmas::Bool::Decides::nat_tests), unfolding(crate::specs::Rules::overlaps))]
-pub(crate) fn overlaps(bits: Bits, ip: u64, len: usize, place: u64, other: usize) -> bool
-    ensures { result ≡ spec.overlaps bits ip len place other }
-{
-    len > 0 && other > 0 && (is_within(bits, ip, len, place) || is_within(bits, place, other, ip))
 }
 
 /// Whether the trampoline of a detour at a place would lie in the given bytes of the function.

@@ -79,6 +79,7 @@ pub mod Reached
 pub use Rattle.detour.specs.Detours
 pub use Rattle.detour.specs.Taken as TakenCode
 pub use Rattle.detour.specs.Starts as MovedStarts
+pub use Rattle.detour.specs.Ranges as AddressRanges
 pub use Rattle.detour.specs.Rules as HookRules
 pub use Rattle.detour.specs.Kept as KeptHooks
 pub use Rattle.detour.specs.Padding as PaddingHooks
@@ -86,6 +87,7 @@ pub use Rattle.detour.specs.Lengths as TrampolineLengths
 pub use Rattle.detour.specs.Writes as PatchWrites
 pub use Rattle.detour.specs.HookSlots.State as HookState
 pub use Rattle.detour.specs.HookSlots.Opening as HookOpening
+pub use Rattle.detour.specs.HookSlots.Patches as HookPatches
 pub use Rattle.detour.specs.HookSlots.Installing as HookInstalls
 pub use Rattle.detour.specs.HookSlots.Removing as HookRemovals
 pub use Rattle.detour.specs.HookSlots.Holding as HookHolding

@@ -17,20 +17,23 @@ use Rattle.code_region.specs.LiveEntries.Keeping.{AreLive}
 use Rattle.code_region.specs.LiveEntries.Facts.{LiveFacts}
 use Rattle.detour.specs.declared.start.StartTarget.{StartTarget}
 use Rattle.detour.specs.declared.hook_slots.making.Hook.{Hook}
+use Rattle.detour.specs.declared.hook_slots.patches.SlotRange.{SlotRange}
 use Rattle.detour.specs.declared.hook_slots.refusals.InstallError.{InstallError}
-use Rattle.detour.specs.declared.hook_slots.refusals.InstallError.TheVariants.{Memory, Full, NoDetour, TooLong}
-use Rattle.detour.specs.HookSlots.State.{HooksState, hook_place, no_hooks, with_hook, hook_at}
+use Rattle.detour.specs.declared.hook_slots.refusals.InstallError.TheVariants.{Memory, Full, NoDetour, TooLong, InRange, Patched}
+use Rattle.detour.specs.HookSlots.State.{HooksState, range_of, hook_place, no_hooks, with_hook, hook_at}
 use Rattle.detour.specs.HookSlots.Opening.{make_refusal}
-use Rattle.detour.specs.HookSlots.Installing.{IsHookPlaced, place_refusal, hooks_after, IsInstalled}
+use Rattle.detour.specs.HookSlots.Patches.{patch_refusal, PatchesAreApart}
+use Rattle.detour.specs.HookSlots.Installing.{IsHookPlaced, place_refusal, install_place, hooks_after, IsInstalled}
 use Rattle.detour.specs.HookSlots.Removing.{remove_of, remove_answer, without_hook, after_removal}
 use Rattle.detour.specs.declared.hook_slots.commands.HookCommand.{HookCommand}
 use Rattle.detour.specs.declared.hook_slots.commands.HookCommand.TheVariants.{Install, Remove}
 use Rattle.detour.specs.declared.hook_slots.commands.HookReply.{HookReply}
 use Rattle.detour.specs.HookSlots.Running.{IsHookRun}
 use Rattle.detour.specs.HookSlots.Holding.{HooksAreApart, AreDetours, HoldsHooks}
-use Rattle.detour.specs.HookSlots.Keeping.{IsSlot, AreSpaced, IsHookBlock, AreHooksKept, AreKeptIn}
+use Rattle.detour.specs.HookSlots.Keeping.{IsSlot, AreSpaced, IsHookBlock, AreHooksKept, AreHooksHeld, AreKeptIn}
 use Rattle.detour.specs.HookSlots.LawsBelow.{HookLawsBelow}
 use Rattle.detour.proofs.HookSlots.Spaced.{rounded-slot, slots-with, slots-without, is-full, place-slot}
+use Rattle.detour.proofs.HookSlots.Patches.{patches-none, patches-with, patches-without}
 
 -- a number that is not another, and not above it
 below : (n m : ℕ) → (n ≡ m → ⊥) → n ≤ m → n < m
@@ -54,12 +57,13 @@ module _ (laws : HookLawsBelow) (slot : ℕ) (region : RegionState) (sound : IsS
       same ∙ (ap (λ (r : RegionState). after_release r place) is ∙ (laws.regions.restores region slot place sound e).blocks)
 
 -- no place is handed out where each slot has a hook
-pub full-placed : (bits : Bits) (slot : ℕ) (region : RegionState) (sound : IsSound region) (spaced : AreSpaced slot region) (ip : ℕ) (code : List ℕ) (to : ℕ)
-    (start : StartTarget) (why : PlaceError) → place_answer region slot ≡ Err why → (new : RegionState) → new ≡ region → (said : InstallError) → said ≡ place_refusal why
-    → IsHookPlaced bits slot region ip code to start (Err said) new
-full-placed bits slot region sound spaced ip code to start why e new same said is =
-    let full = is-full slot region spaced sound why e in
-    subst (λ (w : InstallError). IsHookPlaced bits slot region ip code to start (Err w) new) (sym (is ∙ ap place_refusal full.0)) ((full.1, refl), same)
+pub full-placed : (range : SlotRange) (hooks : List Hook) (region : RegionState) (sound : IsSound region) (spaced : AreSpaced range.slot region)
+    (ip : ℕ) (code : List ℕ) (to : ℕ) (start : StartTarget) (why : PlaceError) → place_answer region range.slot ≡ Err why
+    → (new : RegionState) → new ≡ region → (said : InstallError) → said ≡ place_refusal why
+    → IsHookPlaced range hooks region ip code to start (Err said) new
+full-placed range hooks region sound spaced ip code to start why e new same said is =
+    let full = is-full range.slot region spaced sound why e in
+    subst (λ (w : InstallError). IsHookPlaced range hooks region ip code to start (Err w) new) (sym (is ∙ ap place_refusal full.0)) ((full.1, refl), same)
 
 -- ---- what is kept
 
@@ -74,7 +78,7 @@ module _ (laws : HookLawsBelow) (bits : Bits) (slot : ℕ) (region : RegionState
 
   -- an install
   module _ (ip : ℕ) (code : List ℕ) (to : ℕ) (start : StartTarget) (hook : Hook) (new : RegionState)
-      (made : IsHookPlaced bits slot region ip code to start (Ok hook) new) where
+      (made : IsHookPlaced (record { bits = bits; base = region.base; size = region.size; slot = slot }) hooks region ip code to start (Ok hook) new) where
     -- there is room for it
     pub install-room : length hooks < room
     install-room = live.has-room slot hook.place made.0.0
@@ -93,7 +97,7 @@ module _ (laws : HookLawsBelow) (bits : Bits) (slot : ℕ) (region : RegionState
 
     fits : length bytes ≤ len_in_units slot
     unfolding bytes
-    fits = let le = made.0.1.1 in let same = same_slot in omega (arith, le, same)
+    fits = let le = made.0.1.0.1 in let same = same_slot in omega (arith, le, same)
 
     is_now : new ≡ now
     unfolding bytes block now
@@ -106,8 +110,8 @@ module _ (laws : HookLawsBelow) (bits : Bits) (slot : ℕ) (region : RegionState
         record {
           place = refl;
           len = same_slot;
-          is_detour = (code, made.0.1.0.is);
-          short = made.0.1.1;
+          is_detour = (code, made.0.1.0.0.is);
+          short = made.0.1.0.1;
           content = ap (λ (n : ℕ). hook.detour.trampoline ++ replicate (n - length hook.detour.trampoline) int3) same_slot;
         } in
         subst (λ (r : RegionState). AreLive (IsHookBlock bits slot) r (with_hook hook hooks) more)
@@ -129,9 +133,26 @@ module _ (laws : HookLawsBelow) (bits : Bits) (slot : ℕ) (region : RegionState
     pub install-kept : (more : ℕ) → room ≤ more → (after : List Hook) → after ≡ with_hook hook hooks → AreHooksKept bits slot new after more
     unfolding now
     install-kept more roomy after same =
-        let on_now : AreHooksKept bits slot now (with_hook hook hooks) more = record { spaced = spaced_now; live = live_now more roomy } in
+        let range : SlotRange = record { bits = bits; base = region.base; size = region.size; slot = slot } in
+        let clear = patches-with bits region hooks kept.patches slot hook
+        (subst (λ (n : ℕ). patch_refusal range hooks n (length hook.detour.patch) ≡ None) (sym made.0.1.0.0.ip_is) made.0.1.1) in
+        let on_now : AreHooksKept bits slot now (with_hook hook hooks) more = record {
+          spaced = spaced_now;
+          live = live_now more roomy;
+          patches = record { outside = clear.outside; apart = clear.apart };
+        } in
         subst (λ (r : RegionState). AreHooksKept bits slot r after more) (sym is_now)
         (subst (λ (xs : List Hook). AreHooksKept bits slot now xs more) (sym same) on_now)
+
+    -- an install keeps the range
+    pub install-base : new.base ≡ region.base
+    unfolding now
+    install-base = ap (λ (r : RegionState). r.base) is_now
+
+    -- and its size
+    pub install-size : new.size ≡ region.size
+    unfolding now
+    install-size = ap (λ (r : RegionState). r.size) is_now
 
     -- an install keeps the maximum number of blocks
     pub install-max : new.max_blocks ≡ region.max_blocks
@@ -143,6 +164,7 @@ module _ (laws : HookLawsBelow) (bits : Bits) (slot : ℕ) (region : RegionState
   unfolding after_release
   remove-kept place =
       let left = live.one-less place in
+      let clear = patches-without bits region hooks kept.patches place in
       record {
         spaced = record {
           is_slot = kept.spaced.is_slot;
@@ -151,6 +173,7 @@ module _ (laws : HookLawsBelow) (bits : Bits) (slot : ℕ) (region : RegionState
           room = kept.spaced.room;
         };
         live = left;
+        patches = record { outside = clear.outside; apart = clear.apart };
       }
 
   -- a hook stands at each place that can be released
@@ -258,7 +281,74 @@ kept-made laws bits base size slot none region is hooks no_hooks room roomy =
         room = fit;
       };
       live = laws.entries.none (bits, slot) base size (size / slot) room roomy;
+      patches = patches-none bits (empty_region base size (size / slot));
     }))
+
+-- ---- in a range that is known
+
+-- a range that is that of the region
+held-range : (range : SlotRange) (region : RegionState) → region.base ≡ range.base → region.size ≡ range.size
+    → range ≡ record { bits = range.bits; base = region.base; size = region.size; slot = range.slot }
+held-range range region base size =
+    ap (λ (b : ℕ). record { bits = range.bits; base = b; size = range.size; slot = range.slot }) (sym base)
+    ∙ ap (λ (n : ℕ). record { bits = range.bits; base = region.base; size = n; slot = range.slot }) (sym size)
+
+-- new hooks know their range
+pub made-held : (laws : HookLawsBelow) (range : SlotRange) → make_refusal range.bits range.base range.size range.slot ≡ None → (region : RegionState)
+    → region ≡ empty_region range.base range.size (range.size / range.slot) → (hooks : List Hook) → hooks ≡ [] → (room : ℕ) → range.size / range.slot ≤ room
+    → AreHooksHeld range region hooks room
+made-held laws range none region is hooks no_hooks room roomy = record {
+  base = ap (λ (r : RegionState). r.base) is;
+  size = ap (λ (r : RegionState). r.size) is;
+  kept = kept-made laws range.bits range.base range.size range.slot none region is hooks no_hooks room roomy;
+}
+
+module _ (laws : HookLawsBelow) (range : SlotRange) (region : RegionState) (hooks : List Hook) (room : ℕ) (held : AreHooksHeld range region hooks room) where
+  module _ (ip : ℕ) (code : List ℕ) (to : ℕ) (start : StartTarget) (hook : Hook) (new : RegionState)
+      (made : IsHookPlaced range hooks region ip code to start (Ok hook) new) where
+    in_region : IsHookPlaced (record { bits = range.bits; base = region.base; size = region.size; slot = range.slot }) hooks region ip code to start (Ok hook) new
+    in_region =
+        subst (λ (r : SlotRange). IsHookPlaced r hooks region ip code to start (Ok hook) new) (held-range range region held.base held.size) made
+
+    -- there is room for a hook that is made
+    pub held-room : length hooks < room
+    held-room = install-room laws range.bits range.slot region hooks room held.kept ip code to start hook new in_region
+
+    -- and the hooks are held with it
+    pub held-with : (more : ℕ) → room ≤ more → (after : List Hook) → after ≡ with_hook hook hooks → AreHooksHeld range new after more
+    held-with more roomy after same = record {
+      base = install-base laws range.bits range.slot region hooks room held.kept ip code to start hook new in_region ∙ held.base;
+      size = install-size laws range.bits range.slot region hooks room held.kept ip code to start hook new in_region ∙ held.size;
+      kept = install-kept laws range.bits range.slot region hooks room held.kept ip code to start hook new in_region more roomy after same;
+    }
+
+  -- what an install leaves
+  pub held-installed : (ip : ℕ) (code : List ℕ) (to : ℕ) (start : StartTarget) (made : Result Hook InstallError) (new : RegionState)
+      → IsHookPlaced range hooks region ip code to start made new → (old : HooksState)
+      → record { bits = range.bits; slot = range.slot; region = region; hooks = hooks } ≡ old → (said : Result ℕ InstallError) → said ≡ install_place made
+      → (after : List Hook) → after ≡ hooks_after made hooks
+      → IsInstalled old ip code to start said (record { bits = range.bits; slot = range.slot; region = new; hooks = after })
+  held-installed ip code to start made new placed old seen said answer after same =
+      let state : HooksState = record { bits = range.bits; slot = range.slot; region = new; hooks = after } in
+      subst (λ (s : HooksState). IsInstalled s ip code to start said state) seen (record {
+        bits = refl;
+        slot = refl;
+        made = made;
+        answer = answer;
+        region =
+            subst (λ (r : SlotRange). IsHookPlaced r hooks region ip code to start made new) (held-range range region held.base held.size) placed;
+        hooks = same;
+      })
+
+  -- a removal
+  pub held-without : (place : ℕ) (new : RegionState) → new ≡ after_release region place → (left : List Hook) → left ≡ without_hook place hooks
+      → (more : ℕ) → more ≡ room → AreHooksHeld range new left more
+  unfolding after_release
+  held-without place new is left same more full = record {
+    base = ap (λ (r : RegionState). r.base) is ∙ held.base;
+    size = ap (λ (r : RegionState). r.size) is ∙ held.size;
+    kept = remove-made laws range.bits range.slot region hooks room held.kept place new is left same more full;
+  }
 
 -- ---- in runs
 
@@ -280,7 +370,7 @@ module _ (laws : HookLawsBelow) (old : HooksState) (kept : AreKeptIn old) where
 
   module _ (ip : ℕ) (code : List ℕ) (to : ℕ) (start : StartTarget) where
     -- the region and the hooks after an install
-    after-kept : (made : Result Hook InstallError) (region : RegionState) → IsHookPlaced old.bits old.slot old.region ip code to start made region
+    after-kept : (made : Result Hook InstallError) (region : RegionState) → IsHookPlaced (range_of old) old.hooks old.region ip code to start made region
         → (hooks : List Hook) → hooks ≡ hooks_after made old.hooks → AreHooksKept old.bits old.slot region hooks region.max_blocks
     after-kept (Ok hook) region placed_there hooks same =
         let max = install-max laws old.bits old.slot old.region old.hooks old.region.max_blocks kept ip code to start hook region placed_there in
@@ -289,6 +379,8 @@ module _ (laws : HookLawsBelow) (old : HooksState) (kept : AreKeptIn old) where
     after-kept (Err (Full max)) region left hooks same = unchanged region left.1 hooks same
     after-kept (Err (NoDetour why)) region left hooks same = unchanged region left.1 hooks same
     after-kept (Err (TooLong len size)) region left hooks same = unchanged region left.1 hooks same
+    after-kept (Err InRange) region left hooks same = unchanged region left.1 hooks same
+    after-kept (Err (Patched at)) region left hooks same = unchanged region left.1 hooks same
     after-kept (Err Memory) region left hooks same = unchanged region left hooks same
 
     -- an install keeps the hooks

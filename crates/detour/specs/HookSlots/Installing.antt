@@ -1,5 +1,5 @@
 -- What an install answers, and the hooks after it.
-use Rattle.std.specs.Prelude.{◌≡◌, ℕ, ◌<◌, ◌≤◌, List, length, take, Result, Ok, Err}
+use Rattle.std.specs.Prelude.{◌≡◌, ℕ, ◌<◌, ◌≤◌, List, length, take, Some, None, Result, Ok, Err}
 use Rattle.x86_values.specs.declared.Bits.{Bits}
 use Rattle.code_region.specs.declared.refusals.PlaceError.{PlaceError}
 use Rattle.code_region.specs.declared.refusals.PlaceError.TheVariants as place_error
@@ -11,9 +11,11 @@ use Rattle.detour.specs.declared.error.DetourError.TheVariants as detour_error
 use Rattle.detour.specs.declared.start.StartTarget.{StartTarget}
 use Rattle.detour.specs.Detours.{DetourState, IsDetourAnswer}
 use Rattle.detour.specs.declared.hook_slots.making.Hook.{Hook}
+use Rattle.detour.specs.declared.hook_slots.patches.SlotRange.{SlotRange}
 use Rattle.detour.specs.declared.hook_slots.refusals.InstallError.{InstallError}
-use Rattle.detour.specs.declared.hook_slots.refusals.InstallError.TheVariants.{Memory, Full, NoDetour, TooLong}
-use Rattle.detour.specs.HookSlots.State.{HooksState, with_hook}
+use Rattle.detour.specs.declared.hook_slots.refusals.InstallError.TheVariants.{Memory, Full, NoDetour, TooLong, InRange, Patched}
+use Rattle.detour.specs.HookSlots.State.{HooksState, range_of, with_hook}
+use Rattle.detour.specs.HookSlots.Patches.{patch_refusal}
 
 -- a hook is the detour of a function with this code, and has the bytes of the code that the patch replaces
 pub record IsHook (bits : Bits) (code : List ℕ) (hook : Hook) : Type 0 where
@@ -34,18 +36,29 @@ install_refusal detour_error.Memory = Memory
 install_refusal why = NoDetour why
 
 -- a detour has more bytes in its trampoline than a slot
-abbrev pub IsTooLong : Bits → ℕ → ℕ → List ℕ → ℕ → StartTarget → ℕ → ℕ → Type 0
-IsTooLong bits slot ip code to start place len =
-    (d : DetourState) × (IsDetourAnswer bits ip code to place start (Ok d) × ((len ≡ length d.trampoline) × (slot < len)))
+abbrev pub IsTooLong : SlotRange → ℕ → List ℕ → ℕ → StartTarget → ℕ → ℕ → Type 0
+IsTooLong range ip code to start place len =
+    (d : DetourState) × (IsDetourAnswer range.bits ip code to place start (Ok d) × ((len ≡ length d.trampoline) × (range.slot < len)))
 
--- the hook of a function with its trampoline at a place, or why there is none
-abbrev pub IsHookAnswer : Bits → ℕ → ℕ → List ℕ → ℕ → StartTarget → ℕ → Result Hook InstallError → Type 0
-IsHookAnswer bits slot ip code to start place (Ok hook) = IsHookOf bits ip code to start place hook × (length hook.detour.trampoline ≤ slot)
-IsHookAnswer bits slot ip code to start place (Err (NoDetour why)) =
-    IsDetourAnswer bits ip code to place start (Err why) × (why ≡ detour_error.Memory → ⊥)
-IsHookAnswer bits slot ip code to start place (Err (TooLong len size)) = IsTooLong bits slot ip code to start place len × (size ≡ slot)
-IsHookAnswer bits slot ip code to start place (Err (Full max)) = ⊥
-IsHookAnswer bits slot ip code to start place (Err Memory) = Unit {0}
+-- a detour whose trampoline fits a slot has a patch that is refused for this cause
+abbrev pub IsPatchRefused : SlotRange → List Hook → ℕ → List ℕ → ℕ → StartTarget → ℕ → InstallError → Type 0
+IsPatchRefused range hooks ip code to start place why =
+    (d : DetourState)
+    × (IsDetourAnswer range.bits ip code to place start (Ok d)
+    × ((length d.trampoline ≤ range.slot) × (patch_refusal range hooks ip (length d.patch) ≡ Some why)))
+
+-- the hook of a function with its trampoline at a place, beside the live hooks, or why there is none
+abbrev pub IsHookAnswer : SlotRange → List Hook → ℕ → List ℕ → ℕ → StartTarget → ℕ → Result Hook InstallError → Type 0
+IsHookAnswer range hooks ip code to start place (Ok hook) =
+    (IsHookOf range.bits ip code to start place hook × (length hook.detour.trampoline ≤ range.slot))
+    × (patch_refusal range hooks ip (length hook.detour.patch) ≡ None)
+IsHookAnswer range hooks ip code to start place (Err (NoDetour why)) =
+    IsDetourAnswer range.bits ip code to place start (Err why) × (why ≡ detour_error.Memory → ⊥)
+IsHookAnswer range hooks ip code to start place (Err (TooLong len size)) = IsTooLong range ip code to start place len × (size ≡ range.slot)
+IsHookAnswer range hooks ip code to start place (Err InRange) = IsPatchRefused range hooks ip code to start place InRange
+IsHookAnswer range hooks ip code to start place (Err (Patched at)) = IsPatchRefused range hooks ip code to start place (Patched at)
+IsHookAnswer range hooks ip code to start place (Err (Full max)) = ⊥
+IsHookAnswer range hooks ip code to start place (Err Memory) = Unit {0}
 
 -- no slot is free where each has a hook
 abbrev pub IsForSlots : PlaceError → Type 0
@@ -59,20 +72,22 @@ place_refusal (place_error.TooManyBlocks max) = Full max
 place_refusal why = Memory
 
 -- there is a slot, and no hook with its trampoline there, for this cause
-abbrev pub IsRefusedAt : Bits → ℕ → RegionState → ℕ → List ℕ → ℕ → StartTarget → InstallError → Type 0
-IsRefusedAt bits slot old ip code to start why =
-    (place : ℕ) × ((place_answer old slot ≡ Ok place) × IsHookAnswer bits slot ip code to start place (Err why))
+abbrev pub IsRefusedAt : SlotRange → List Hook → RegionState → ℕ → List ℕ → ℕ → StartTarget → InstallError → Type 0
+IsRefusedAt range hooks old ip code to start why =
+    (place : ℕ) × ((place_answer old range.slot ≡ Ok place) × IsHookAnswer range hooks ip code to start place (Err why))
 
 -- The region after an install: the first slot that is free has the trampoline, or nothing changed. Full comes where as many blocks are live as there are
 -- slots, the other causes where there is a place.
-abbrev pub IsHookPlaced : Bits → ℕ → RegionState → ℕ → List ℕ → ℕ → StartTarget → Result Hook InstallError → RegionState → Type 0
-IsHookPlaced bits slot old ip code to start (Ok hook) new =
-    ((place_answer old slot ≡ Ok hook.place) × IsHookAnswer bits slot ip code to start hook.place (Ok hook))
-    × (new ≡ after_fill (after_place old slot) hook.place hook.detour.trampoline)
-IsHookPlaced bits slot old ip code to start (Err (Full max)) new = ((length old.live ≡ max) × (old.max_blocks ≡ max)) × (new ≡ old)
-IsHookPlaced bits slot old ip code to start (Err (NoDetour why)) new = IsRefusedAt bits slot old ip code to start (NoDetour why) × (new ≡ old)
-IsHookPlaced bits slot old ip code to start (Err (TooLong len size)) new = IsRefusedAt bits slot old ip code to start (TooLong len size) × (new ≡ old)
-IsHookPlaced bits slot old ip code to start (Err Memory) new = new ≡ old
+abbrev pub IsHookPlaced : SlotRange → List Hook → RegionState → ℕ → List ℕ → ℕ → StartTarget → Result Hook InstallError → RegionState → Type 0
+IsHookPlaced range hooks old ip code to start (Ok hook) new =
+    ((place_answer old range.slot ≡ Ok hook.place) × IsHookAnswer range hooks ip code to start hook.place (Ok hook))
+    × (new ≡ after_fill (after_place old range.slot) hook.place hook.detour.trampoline)
+IsHookPlaced range hooks old ip code to start (Err (Full max)) new = ((length old.live ≡ max) × (old.max_blocks ≡ max)) × (new ≡ old)
+IsHookPlaced range hooks old ip code to start (Err (NoDetour why)) new = IsRefusedAt range hooks old ip code to start (NoDetour why) × (new ≡ old)
+IsHookPlaced range hooks old ip code to start (Err (TooLong len size)) new = IsRefusedAt range hooks old ip code to start (TooLong len size) × (new ≡ old)
+IsHookPlaced range hooks old ip code to start (Err InRange) new = IsRefusedAt range hooks old ip code to start InRange × (new ≡ old)
+IsHookPlaced range hooks old ip code to start (Err (Patched at)) new = IsRefusedAt range hooks old ip code to start (Patched at) × (new ≡ old)
+IsHookPlaced range hooks old ip code to start (Err Memory) new = new ≡ old
 
 -- the place of a hook that was made
 abbrev pub install_place : Result Hook InstallError → Result ℕ InstallError
@@ -90,5 +105,5 @@ pub record IsInstalled (old : HooksState) (ip : ℕ) (code : List ℕ) (to : ℕ
   pub slot : new.slot ≡ old.slot
   pub made : Result Hook InstallError
   pub answer : said ≡ install_place made
-  pub region : IsHookPlaced old.bits old.slot old.region ip code to start made new.region
+  pub region : IsHookPlaced (range_of old) old.hooks old.region ip code to start made new.region
   pub hooks : new.hooks ≡ hooks_after made old.hooks

@@ -4,7 +4,9 @@ use Rattle.x86_values.specs.declared.Bits.{Bits}
 use Rattle.code_region.specs.State.{LiveBlock, RegionState, int3}
 use Rattle.code_region.specs.LiveEntries.Keeping.{AreLive}
 use Rattle.detour.specs.declared.hook_slots.making.Hook.{Hook}
+use Rattle.detour.specs.declared.hook_slots.patches.SlotRange.{SlotRange}
 use Rattle.detour.specs.HookSlots.State.{HooksState}
+use Rattle.detour.specs.HookSlots.Patches.{PatchesAreApart}
 use Rattle.detour.specs.HookSlots.Holding.{HasDetour}
 
 -- a slot has some bytes, in units of 16
@@ -37,6 +39,13 @@ pub record IsHookBlock (bits : Bits) (slot : ℕ) (hook : Hook) (block : LiveBlo
 pub record AreHooksKept (bits : Bits) (slot : ℕ) (region : RegionState) (hooks : List Hook) (room : ℕ) : Type 0 where
   pub spaced : AreSpaced slot region
   pub live : AreLive (IsHookBlock bits slot) region hooks room
+  pub patches : PatchesAreApart bits region hooks
+
+-- hooks in a region whose range is known, with room for so many
+pub record AreHooksHeld (range : SlotRange) (region : RegionState) (hooks : List Hook) (room : ℕ) : Type 0 where
+  pub base : region.base ≡ range.base
+  pub size : region.size ≡ range.size
+  pub kept : AreHooksKept range.bits range.slot region hooks room
 
 -- what is seen of live hooks is kept in their region
 abbrev pub AreKeptIn : HooksState → Type 0

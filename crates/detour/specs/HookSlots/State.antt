@@ -5,6 +5,7 @@ use Rattle.code_region.specs.State.{RegionState}
 use Rattle.code_region.specs.Opening.{empty_region}
 use Rattle.code_region.specs.LiveEntries.Order.{with_entry, live_entry}
 use Rattle.detour.specs.declared.hook_slots.making.Hook.{Hook}
+use Rattle.detour.specs.declared.hook_slots.patches.SlotRange.{SlotRange}
 
 -- the mode, the size of a slot, the region, and the live hooks by address
 pub record HooksState : Type 0 where
@@ -16,6 +17,10 @@ pub record HooksState : Type 0 where
 -- no live hook, and as many slots as the range has room for
 abbrev pub no_hooks : Bits → ℕ → ℕ → ℕ → HooksState
 no_hooks bits base size slot = record { bits = bits; slot = slot; region = empty_region base size (size / slot); hooks = [] }
+
+-- the range of the trampolines
+abbrev pub range_of : HooksState → SlotRange
+range_of state = record { bits = state.bits; base = state.region.base; size = state.region.size; slot = state.slot }
 
 -- where the trampoline of a hook starts
 abbrev pub hook_place : Hook → ℕ

@@ -4,6 +4,7 @@ ghost use Rattle.std.specs.Prelude.{◌≡◌, ◌⊎◌, ◌≤◌, All, IfSome
 ghost use Rattle.code_region.specs.State.{region_image};
 ghost use Rattle.detour.specs.HookSlots.State.{no_hooks, hook_at};
 ghost use Rattle.detour.specs.HookSlots.Opening.{make_refusal};
+ghost use Rattle.detour.specs.HookSlots.Patches.{PatchesAreApart};
 ghost use Rattle.detour.specs.HookSlots.Installing.{IsInstalled};
 ghost use Rattle.detour.specs.HookSlots.Removing.{remove_answer, after_removal};
 ghost use Rattle.detour.specs.HookSlots.Holding.{HooksAreApart, AreDetours, HoldsHooks};
@@ -11,6 +12,7 @@ ghost use Rattle.detour.specs.HookSlots.Holding.{HooksAreApart, AreDetours, Hold
 use crate::StartTarget;
 use crate::hook_slots::laws_below::laws_below;
 use crate::hook_slots::making::{Hook, place_hook};
+use crate::hook_slots::patches::SlotRange;
 use crate::hook_slots::refusals::{InstallError, MakeError};
 use code_region::live_entries::{insert_entry, remove_entry};
 use code_region::{NotTaken, Region};
@@ -39,22 +41,21 @@ const MAX_SIZE: u64 = 1_048_576;
 /// ```
 #[derive(Drop)]
 pub struct Hooks {
-    bits: Bits,
-    slot: u64,
+    range: SlotRange,
     region: Region,
     live: Vec<Hook>,
 }
 
 impl Model for Hooks {
     ghost use Rattle.detour.specs.HookSlots.State.{HooksState};
-    ghost use Rattle.detour.specs.HookSlots.Keeping.{AreHooksKept};
+    ghost use Rattle.detour.specs.HookSlots.Keeping.{AreHooksHeld};
     ghost use Rattle.std.specs.Prelude.{vec_capacity};
 
     ghost Value = { HooksState };
 
-    ghost view = { λ h. record { bits = h.bits; slot = h.slot; region = h.region; hooks = h.live.items } };
+    ghost view = { λ h. record { bits = h.range.bits; slot = h.range.slot; region = h.region; hooks = h.live.items } };
 
-    ghost invariant = { λ h. AreHooksKept h.bits h.slot h.region h.live.items (vec_capacity h.live) };
+    ghost invariant = { λ h. AreHooksHeld h.range h.region h.live.items (vec_capacity h.live) };
 }
 
 /// Why hooks are refused, if they are; memory is another matter.
@@ -103,9 +104,14 @@ impl Hooks {
         let Ok(live) = Vec::with_capacity(alloc, max as usize) else {
             return Err(MakeError::Memory);
         };
-        Ok(Hooks {
+        let range = SlotRange {
             bits,
+            base,
+            size,
             slot,
+        };
+        Ok(Hooks {
+            range,
             region,
             live,
         })
@@ -115,14 +121,14 @@ impl Hooks {
     pub fn bits(&self) -> Bits
         ensures { result ≡ self.now.bits }
     {
-        self.bits
+        self.range.bits
     }
 
     /// Returns the size of a slot in bytes.
     pub fn slot(&self) -> u64
         ensures { result ≡ self.now.slot }
     {
-        self.slot
+        self.range.slot
     }
 
     /// Hooks a function, and returns the address of its trampoline, which identifies the hook.
@@ -131,7 +137,8 @@ impl Hooks {
     /// [`detour`](crate::detour), with its trampoline in the first free slot.
     ///
     /// Errors, in this order; each leaves the hooks unchanged: every slot is taken; there is no detour, for its cause; the trampoline is longer than
-    /// a slot. Lack of memory can occur at any point.
+    /// a slot; the patch has an address in common with the range of the trampolines; it has one with the patch of a live hook, of which the first is
+    /// named. Ranges of addresses wrap at the address size of the mode. Lack of memory can occur at any point.
     pub fn install(
         &mut self,
         alloc: Global,
@@ -146,9 +153,9 @@ impl Hooks {
         laws_below();
         let hook = place_hook(
             alloc,
-            self.bits,
-            self.slot,
+            self.range,
             &mut self.region,
+            &self.live,
             ip,
             code,
             to,
@@ -174,10 +181,11 @@ impl Hooks {
         }
     }
 
-    /// Returns the live hooks, in the order of their trampolines' addresses.
+    /// Returns the live hooks, in the order of their trampolines' addresses. No two patches have an address in common, and none has one with the range.
     pub fn live(&self) -> &[Hook]
         ensures hooks { result.now ≡ self.now.hooks }
         ensures apart { HooksAreApart self.now }
+        ensures patches { PatchesAreApart self.now.bits self.now.region self.now.hooks }
         ensures detours { AreDetours self.now }
     {
         laws_below();

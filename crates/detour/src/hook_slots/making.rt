@@ -7,6 +7,7 @@ ghost use Rattle.detour.specs.HookSlots.Installing.{IsHookAnswer, IsHookPlaced, 
 ghost use Rattle.detour.specs.HookSlots.Keeping.{AreSpaced};
 
 use crate::hook_slots::laws_below::laws_below;
+use crate::hook_slots::patches::{SlotRange, patch_refusal};
 use crate::hook_slots::refusals::InstallError;
 use crate::{Detour, DetourError, StartTarget, detour};
 use code_region::live_entries::LiveEntry;
@@ -73,11 +74,11 @@ fn detour_refusal(why: DetourError) -> InstallError
     }
 }
 
-/// Returns the hook of a function with its trampoline at a place, if the trampoline fits a slot.
+/// Returns the hook of a function with its trampoline at a place, if the trampoline fits a slot and the patch meets nothing.
 fn hook_at(
     alloc: Global,
-    bits: Bits,
-    slot: u64,
+    range: SlotRange,
+    live: &[Hook],
     ip: u64,
     code: &[u8],
     to: u64,
@@ -85,15 +86,21 @@ fn hook_at(
     place: u64,
 ) -> Result<Hook, InstallError>
     requires { length code.now ≤ 1048576 }
-    ensures { IsHookAnswer bits slot ip code.now to start place result }
+    ensures { IsHookAnswer range live.now ip code.now to start place result }
 {
-    let detour = match detour(alloc, bits, ip, code, to, place, start) {
+    let detour = match detour(alloc, range.bits, ip, code, to, place, start) {
         Ok(detour) => detour,
         Err(why) => return Err(detour_refusal(why)),
     };
     let len = detour.trampoline().len() as u64;
-    if len > slot {
-        return Err(InstallError::TooLong { len, slot });
+    if len > range.slot {
+        return Err(InstallError::TooLong {
+            len,
+            slot: range.slot,
+        });
+    }
+    if let Some(why) = patch_refusal(range, live, ip, detour.patch().len()) {
+        return Err(why);
     }
     let Ok(original) = copy_of(alloc, &code[..detour.taken()]) else {
         return Err(InstallError::Memory);
@@ -122,9 +129,9 @@ fn place_refusal(why: PlaceError) -> InstallError
 /// Hooks a function, with its trampoline in a slot of the region, which it fills.
 pub(crate) fn place_hook(
     alloc: Global,
-    bits: Bits,
-    slot: u64,
+    range: SlotRange,
     region: &mut Region,
+    live: &[Hook],
     ip: u64,
     code: &[u8],
     to: u64,
@@ -132,15 +139,15 @@ pub(crate) fn place_hook(
 ) -> Result<Hook, InstallError>
     requires size { length code.now ≤ 1048576 }
     requires sound { IsSound region.old }
-    requires slots { AreSpaced slot region.old }
-    ensures { IsHookPlaced bits slot region.old ip code.now to start result region.new }
+    requires slots { AreSpaced range.slot region.old }
+    ensures { IsHookPlaced range live.now region.old ip code.now to start result region.new }
 {
     laws_below();
-    let place = match region.place(slot) {
+    let place = match region.place(range.slot) {
         Ok(place) => place,
         Err(why) => return Err(place_refusal(why)),
     };
-    match hook_at(alloc, bits, slot, ip, code, to, start, place) {
+    match hook_at(alloc, range, live, ip, code, to, start, place) {
         Ok(hook) => {
             region.fill(place, hook.detour.trampoline());
             Ok(hook)

@@ -35,4 +35,10 @@ pub enum InstallError {
     /// The trampoline has `len` bytes, and a slot has `slot`.
     #[error("a trampoline of {len} bytes: a slot has {slot}")]
     TooLong { len: u64, slot: u64 },
+    /// The patch has an address in common with the range of the trampolines.
+    #[error("the patch would lie in the range of the trampolines")]
+    InRange,
+    /// The patch has an address in common with that of a live hook. The trampoline of the first such hook starts at `place`.
+    #[error("the patch would overlap that of the hook at {place:#x}")]
+    Patched { place: u64 },
 }

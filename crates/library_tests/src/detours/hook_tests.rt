@@ -337,7 +337,7 @@ const NEAR: Function = Function {
     to: 0x5000,
 };
 
-/// Functions, each with the reason for which it is not hooked.
+/// Functions, each with the reason for which it is not hooked. The range of the trampolines is 9000 to 902F.
 const REFUSED: &[(Function, InstallError)] = &[
     // a relay behind the eight bytes and the jump back, 27 bytes in all
     (
@@ -356,6 +356,16 @@ const REFUSED: &[(Function, InstallError)] = &[
             why: DetourError::TooSmall { len: 2, need: 5 },
         },
     ),
+    // the same at the first address of the range: its patch would lie there, which is asked last
+    (
+        Function {
+            ip: 0x9000,
+            to: 0x7FFF_0000_0000,
+            ..NEAR
+        },
+        InstallError::TooLong { len: 27, slot: 16 },
+    ),
+    (Function { ip: 0x9000, ..NEAR }, InstallError::InRange),
 ];
 
 #[test]
@@ -369,8 +379,69 @@ fn hooks_refused(rt: HostRuntime) -> Result<(), Fail> {
     Ok(())
 }
 
-/// What hooks answer to an install, two removals and three installs.
-fn replies_to_six(alloc: Global, hooks: &mut Hooks) -> [HookReply; 6] {
+/// mov ax, 1234: the patch has three bytes.
+const SHORT: Function = Function {
+    ip: 0x100,
+    code: "b83412c3",
+    to: 0x200,
+};
+
+/// Addresses of three functions, each with the place of its trampoline.
+const THREE: &[(u64, u64)] = &[(0x100, 0x300), (0x104, 0x310), (0xFFFE, 0x320)];
+
+/// Hooks of three functions in 16-bit mode: patches at 100 to 102, at 104 to 106, and at FFFE, FFFF and 0. The range is 300 to 33F.
+fn three_hooked(rt: &impl Abort, alloc: Global) -> Result<Hooks, Fail> {
+    let mut hooks = Hooks::make(alloc, Bits::B16, 0x300, 64, 16)?;
+    for (ip, want) in THREE {
+        let place = install(&mut hooks, alloc, &Function { ip: *ip, ..SHORT })?;
+        same(rt, "the place", &place, &Ok(*want));
+    }
+    Ok(hooks)
+}
+
+/// Addresses of a fourth function, each with what its install answers.
+const FOURTH: &[(u64, Result<u64, InstallError>)] = &[
+    // just before 100, and just behind 106
+    (0xFD, Ok(0x330)),
+    (0x107, Ok(0x330)),
+    // one byte of the first patch, all of it, and its last byte with the first one of the second patch
+    (0xFE, Err(InstallError::Patched { place: 0x300 })),
+    (0x100, Err(InstallError::Patched { place: 0x300 })),
+    (0x102, Err(InstallError::Patched { place: 0x300 })),
+    (0x103, Err(InstallError::Patched { place: 0x310 })),
+    // 1_0100 is 100 in 16-bit mode
+    (0x1_0100, Err(InstallError::Patched { place: 0x300 })),
+    // the third patch goes on at 0
+    (0x0, Err(InstallError::Patched { place: 0x320 })),
+    (0x1, Ok(0x330)),
+    // just before and behind the range, and one byte in it
+    (0x2FD, Ok(0x330)),
+    (0x340, Ok(0x330)),
+    (0x2FE, Err(InstallError::InRange)),
+    (0x33F, Err(InstallError::InRange)),
+];
+
+/// What the install of a fourth function answers; if it is hooked, its hook is removed again.
+fn fourth(alloc: Global, hooks: &mut Hooks, ip: u64) -> Result<Result<u64, InstallError>, Fail> {
+    let answer = install(hooks, alloc, &Function { ip, ..SHORT })?;
+    if let Ok(place) = answer {
+        hooks.remove(place)?;
+    }
+    Ok(answer)
+}
+
+#[test]
+fn patches_apart(rt: HostRuntime) -> Result<(), Fail> {
+    let mut hooks = three_hooked(&rt, rt.alloc())?;
+    for (ip, want) in FOURTH {
+        let answer = fourth(rt.alloc(), &mut hooks, *ip)?;
+        same(&rt, "the answer", &answer, want);
+    }
+    Ok(())
+}
+
+/// What hooks answer to an install, two removals, the install twice, and another one twice.
+fn replies_to_seven(alloc: Global, hooks: &mut Hooks) -> [HookReply; 7] {
     let code = [0x31, 0xC0, 0xFF, 0xC0, 0x90, 0xC3];
     let install = HookCommand::Install {
         ip: 0x1000,
@@ -378,18 +449,27 @@ fn replies_to_six(alloc: Global, hooks: &mut Hooks) -> [HookReply; 6] {
         to: 0x5000,
         start: StartTarget::Moved,
     };
+    let other = HookCommand::Install {
+        ip: 0x1010,
+        code: &code,
+        to: 0x5000,
+        start: StartTarget::Moved,
+    };
     let remove = HookCommand::Remove { place: 0x9000 };
-    let commands = [install, remove, remove, install, install, install];
-    let mut replies = [HookReply::Removed; 6];
+    let commands = [install, remove, remove, install, install, other, other];
+    let mut replies = [HookReply::Removed; 7];
     replay(hooks, alloc, &commands, &mut replies);
     replies
 }
 
-const REPLIES: [HookReply; 6] = [
+const REPLIES: [HookReply; 7] = [
     HookReply::Installed { place: 0x9000 },
     HookReply::Removed,
     HookReply::NotTaken { place: 0x9000 },
     HookReply::Installed { place: 0x9000 },
+    HookReply::Refused {
+        why: InstallError::Patched { place: 0x9000 },
+    },
     HookReply::Installed { place: 0x9010 },
     HookReply::Refused {
         why: InstallError::Full { max: 2 },
@@ -399,8 +479,8 @@ const REPLIES: [HookReply; 6] = [
 #[test]
 fn commands_in_order(rt: HostRuntime) -> Result<(), Fail> {
     let mut hooks = Hooks::make(rt.alloc(), Bits::B64, 0x9000, 32, 16)?;
-    let replies = replies_to_six(rt.alloc(), &mut hooks);
+    let replies = replies_to_seven(rt.alloc(), &mut hooks);
     same(&rt, "the replies", &replies, &REPLIES);
-    let trampolines = &["31c0ffc090e9fb7fffff", "31c0ffc090e9eb7fffff"];
+    let trampolines = &["31c0ffc090e9fb7fffff", "31c0ffc090e9fb7fffff"];
     has_slots(&rt, rt.alloc(), &hooks, 16, trampolines)
 }

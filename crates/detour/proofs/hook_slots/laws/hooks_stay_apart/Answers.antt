@@ -9,6 +9,7 @@ returns c =
       kept-installed = λ old ip code to start answer new here. kept.installed-kept laws old here ip code to start answer new;
       kept-removed = λ old place here. kept.removed-kept laws old here place;
       apart = λ state here. kept.kept-apart laws state state.region.max_blocks here;
+      patches = λ state here. here.patches;
       detours = λ state here. kept.kept-detours laws state state.region.max_blocks here;
       holds = λ state here. kept.kept-holds laws state state.region.max_blocks here;
     }

@@ -7,6 +7,6 @@ use Rattle.detour.proofs.hook_slots.hooking.Hooks.image.Goals as goal
 pub returns-clause-hooks : goal.returns-clause-hooks
 returns-clause-hooks c =
     let f = c.self.inside in
-    let seen : HooksState = record { bits = f.bits; slot = f.slot; region = f.region; hooks = f.live.items } in
-    let held = kept-holds c.laws_below.ensures seen _ c.self.invariant in
+    let seen : HooksState = record { bits = f.range.bits; slot = f.range.slot; region = f.region; hooks = f.live.items } in
+    let held = kept-holds c.laws_below.ensures seen _ c.self.invariant.kept in
     subst (λ (s : HooksState). HoldsHooks s c.image.result.now) c.self.view_is (subst (λ (xs : List ℕ). HoldsHooks seen xs) (sym c.image.ensures) held)
