@@ -1,5 +1,5 @@
 -- No trampoline, and no length of one, is more than 400 bytes: at most 14 instructions are taken, and each has at most 15 bytes and a slot.
-use Rattle.std.proofs.Common.{◌≡◌, ℕ, zero, suc, ◌+◌, ◌-◌, ◌*◌, ◌^◌, ◌<◌, ◌≤◌, inl, inr, Bool, true, false, List, [], ◌∷◌, ◌++◌, length, take, drop, map, Option, Some, None, Result, Ok, Err, refl, sym, subst, ap, ◌∙◌, arith}
+use Rattle.std.proofs.Common.{◌≡◌, ℕ, zero, suc, ◌+◌, ◌-◌, ◌*◌, ◌^◌, ◌<◌, ◌≤◌, inl, inr, Bool, true, false, List, [], ◌∷◌, length, take, drop, map, Option, Some, None, Result, Ok, Err, refl, sym, subst, ap, ◌∙◌, arith}
 use Rattle.std.specs.Prelude.{IfOk, ◌&&◌, if◌then◌else◌, unwrap_or, slice_get, is_none, nat_le}
 use Rattle.std.proofs.lemmas.Bool.{and_parts, leb-true}
 use Rattle.std.proofs.lemmas.List.{length-append, length-take-le}
@@ -19,19 +19,18 @@ use Rattle.operand_info.specs.Operands.{near_value, first_value}
 use Rattle.encoder.specs.Encoding.{encoding}
 use Rattle.branch_sizes.specs.declared.plan.Choice.{Choice}
 use Rattle.branch_sizes.specs.Plan.{lengths_rise_from}
-use Rattle.move_goals.specs.declared.branch_forms.branch.Action.TheVariants.{Jump, Call}
+use Rattle.move_goals.specs.declared.branch_forms.branch.Action.TheVariants.{Jump}
 use Rattle.move_goals.specs.BranchForms.Branches.{near_code}
 use Rattle.move_goals.specs.BranchForms.Choices.{choices_of}
 use Rattle.move_goals.specs.BranchForms.Images.{branch_to}
 use Rattle.move_goals.specs.declared.items.Placed.{Placed}
-use Rattle.move_goals.specs.Items.{IsPlaced, ArePlaced, item_at}
+use Rattle.move_goals.specs.Items.{IsPlaced, ArePlaced}
 use Rattle.block_encoder.specs.PushedCalls.Jumps.{jump_to, direct_jump, indirect_jump, operand_behind, jump_of}
 use Rattle.block_encoder.specs.PushedCalls.Pushes.{pushes}
-use Rattle.block_encoder.specs.PushedCalls.Rows.{call_code}
 use Rattle.block_encoder.specs.PushedCalls.Items.{return_address, item_of, item_if, encoded_item, jump_item, with_jump, with_jump_if, pushed_items}
 use Rattle.detour.specs.LengthLaws.{LengthLawsBelow}
 use Rattle.detour.specs.declared.error.DetourError.{DetourError}
-use Rattle.detour.specs.declared.error.DetourError.TheVariants.{Memory, BadCode, TooSmall, Ends, Entered, Wraps, TooFar}
+use Rattle.detour.specs.declared.error.DetourError.TheVariants.{Memory}
 use Rattle.detour.specs.declared.parts.JumpForm.{JumpForm}
 use Rattle.detour.specs.declared.parts.JumpForm.TheVariants.{Near, Relay, Absolute}
 use Rattle.detour.specs.declared.rules.HookRules.{HookRules}
@@ -43,7 +42,6 @@ use Rattle.detour.specs.Detours.{DetourState, IsDetour, IsTakenAnswer, IsJumpOf,
 use Rattle.detour.specs.Rules.{move_rule}
 use Rattle.detour.specs.Lengths.{greatest_length, images_length, slots_count, slots_length, block_length, IsLengthOf, IsTakenLength, with_relay, IsDetourLength, IsLengthFor}
 use Rattle.detour.proofs.Front.{each_more}
-use Rattle.detour.proofs.Jumping.{near-five}
 use Rattle.detour.proofs.Planned.{count_within, block_few, block_placed, below_width}
 use Rattle.detour.proofs.Longest.{slots_suc, trampoline_within}
 use Rattle.detour.proofs.Enough.{absolute_long}

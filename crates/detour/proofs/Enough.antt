@@ -1,14 +1,13 @@
 -- The length of what is taken is one, and it is enough for every trampoline of it.
-use Rattle.std.proofs.Common.{◌≡◌, ℕ, suc, ◌+◌, ◌<◌, ◌≤◌, inl, inr, Bool, List, [], ◌∷◌, ◌++◌, length, drop, max, Option, Some, None, Result, Ok, Err, refl, sym, subst, ap, ◌∙◌, arith}
+use Rattle.std.proofs.Common.{◌≡◌, ℕ, ◌+◌, ◌<◌, ◌≤◌, inl, inr, Bool, List, [], ◌∷◌, length, drop, Option, Some, None, Result, Ok, Err, refl, sym, subst, ap, ◌∙◌, arith}
 use Rattle.std.specs.Prelude.{IfOk, false, unwrap_or, slice_get, ◌&&◌, is_none, ◌-◌}
 use Rattle.std.proofs.lemmas.List.{length-append}
 use Rattle.std.proofs.lemmas.List.Sums.{sum_by-cons}
 use Rattle.x86_values.specs.declared.Bits.{Bits}
-use Rattle.x86_values.specs.declared.Bits.TheVariants.{B64}
 use Rattle.x86_values.specs.declared.Decoded.{Decoded}
 use Rattle.x86_values.specs.Wrapping.{modulo_width}
 use Rattle.plain_spelling.specs.Values.{low_bytes}
-use Rattle.row_relation.specs.Spells.{Reading, Read}
+use Rattle.row_relation.specs.Spells.{Read}
 use Rattle.opcode_rows.specs.Sweep.{IsReadAt}
 use Rattle.decoder.specs.declared.DecodeError.{DecodeError}
 use Rattle.decoder.specs.declared.DecodeError.TheVariants.{Invalid as InvalidError, TooShort as TooShortError}
@@ -22,12 +21,12 @@ use Rattle.detour.specs.declared.parts.JumpForm.TheVariants.{Near, Relay, Absolu
 use Rattle.detour.specs.declared.rules.HookRules.{HookRules}
 use Rattle.detour.specs.declared.start.MoveRule.{MoveRule}
 use Rattle.encoder.specs.Encoding.{encoding}
-use Rattle.detour.specs.Jumps.{near_jump_to, IsNearJump, IsOutOfReach, absolute_jump}
+use Rattle.detour.specs.Jumps.{near_jump_to, IsNearJump, absolute_jump}
 use Rattle.detour.specs.Taken.{AreReadFrom, AreTaken, taken_bytes, reading_of_item, first_code_behind, first_end}
 use Rattle.detour.specs.Trampoline.{pushed_by, pushed_last, block_by, block_items}
 use Rattle.detour.specs.Detours.{DetourState, IsDetour, IsTakenAnswer, IsJumpOf, relay_bytes, all_follow}
 use Rattle.detour.specs.Rules.{move_rule}
-use Rattle.detour.specs.Lengths.{block_length, IsLengthOf, IsTakenLength, with_relay, IsNearLength, IsFarLength, IsDetourLength, IsLengthFor, IsEnough, IsEnoughPlain}
+use Rattle.detour.specs.Lengths.{block_length, IsLengthOf, IsTakenLength, with_relay, IsFarLength, IsDetourLength, IsLengthFor, IsEnough, IsEnoughPlain}
 use Rattle.detour.proofs.Jumping.{near-five}
 use Rattle.detour.proofs.OnePlace.{item_same, one_reading, one_taken}
 use Rattle.detour.proofs.Longest.{trampoline_within}

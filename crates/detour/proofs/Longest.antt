@@ -1,7 +1,7 @@
 -- A block is at no place longer than its images in their longest forms, a gap, and a slot for each that may need one.
-use Rattle.std.proofs.Common.{◌≡◌, ℕ, zero, suc, ◌+◌, ◌-◌, ◌*◌, ◌/◌, ◌<◌, ◌≤◌, inl, inr, Bool, true, false, List, [], ◌∷◌, ◌++◌, length, take, get_or, refl, sym, subst, ap, ◌∙◌, zero-add, arith}
-use Rattle.std.specs.Prelude.{◌==◌, ◌||◌, if◌then◌else◌, cond, sum_by}
-use Rattle.std.proofs.lemmas.Bool.{cases_Bool, ne_eqb}
+use Rattle.std.proofs.Common.{◌≡◌, ℕ, zero, suc, ◌+◌, ◌-◌, ◌*◌, ◌/◌, ◌<◌, ◌≤◌, Bool, true, false, List, [], ◌∷◌, ◌++◌, length, take, get_or, refl, sym, subst, ap, ◌∙◌, zero-add, arith}
+use Rattle.std.specs.Prelude.{◌==◌, ◌||◌, if◌then◌else◌, cond}
+use Rattle.std.proofs.lemmas.Bool.{ne_eqb}
 use Rattle.std.proofs.lemmas.List.{append-nil, length-append}
 use Rattle.std.proofs.lemmas.List.Sums.{sum_by_more}
 use Rattle.std.proofs.Math.Seq.{take-length}
@@ -9,8 +9,8 @@ use Rattle.x86_values.specs.declared.Bits.{Bits}
 use Rattle.branch_sizes.specs.declared.plan.Choice.{Choice}
 use Rattle.branch_sizes.specs.declared.plan.Goal.{Goal}
 use Rattle.branch_sizes.specs.Plan.{no_choice}
-use Rattle.branch_sizes.specs.Layout.{IsLayout, total, span_at, item_choice, image_length}
-use Rattle.branch_sizes.specs.MoveLayout.Laid.{has_far_form, is_far_at, goal_address, has_number, with_goal, far_goals, slots_of, next_eighth, images_end, new_end}
+use Rattle.branch_sizes.specs.Layout.{IsLayout, total, image_length}
+use Rattle.branch_sizes.specs.MoveLayout.Laid.{has_far_form, is_far_at, goal_address, with_goal, far_goals, slots_of, next_eighth, images_end, new_end}
 use Rattle.move_goals.specs.BranchForms.Choices.{choices_of}
 use Rattle.move_goals.specs.declared.items.Placed.{Placed}
 use Rattle.move_goals.specs.Items.{item_at, no_item, one_span}

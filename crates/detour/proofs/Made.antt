@@ -23,7 +23,6 @@ use Rattle.detour.specs.Entries.{IsNotEntered}
 use Rattle.detour.specs.LawsBelow.{DetourLawsBelow}
 use Rattle.detour.specs.ReadBack.{IsPatchRead, IsRelayRead}
 use Rattle.detour.proofs.ReadBack.{patch_read, relay_read, trampoline_read}
-use Rattle.move_goals.specs.Items.{ArePlaced}
 use Rattle.detour.specs.Trampoline.{block_items, trampoline_plan}
 use Rattle.detour.specs.Detours.{IsTakenAnswer, IsRelay, IsRelayBehind, JumpParts, DetourState, IsJumpOf, IsAnswerTo, patch_of}
 use Rattle.detour.specs.Made.{detour_error_of, IsFarJumpOf, IsDetourLaid}

@@ -1,10 +1,9 @@
 -- What stands after each of the writes of a patch, and that a patch has a byte.
-use Rattle.std.proofs.Common.{◌≡◌, ℕ, zero, suc, ◌+◌, ◌-◌, ◌<◌, ◌≤◌, inl, inr, List, [], ◌∷◌, ◌++◌, length, get_or, take, drop, replicate, min, Option, None, refl, ap, sym, subst, ◌∙◌, arith}
+use Rattle.std.proofs.Common.{◌≡◌, ℕ, zero, suc, ◌+◌, ◌-◌, ◌<◌, ◌≤◌, inl, inr, List, [], ◌∷◌, ◌++◌, length, take, drop, replicate, Option, None, refl, ap, sym, subst, ◌∙◌, arith}
 use Rattle.std.specs.Prelude.{◌⊎◌}
 use Rattle.std.proofs.lemmas.List.{ext_get_or, length-append, length-replicate, length-take-le, take-append-drop}
 use Rattle.std.proofs.Math.Seq.{drop-append_seam}
 use Rattle.x86_values.specs.declared.Bits.{Bits}
-use Rattle.move_goals.specs.MovedTargets.Targets.{plain_length}
 use Rattle.move_goals.specs.declared.branch_forms.branch.Action.TheVariants.{Jump}
 use Rattle.move_goals.specs.BranchForms.Branches.{near_code}
 use Rattle.move_goals.specs.BranchForms.Images.{branch_to}
@@ -15,7 +14,7 @@ use Rattle.detour.specs.declared.start.MoveRule.{MoveRule}
 use Rattle.detour.specs.Jumps.{near_jump_to, IsNearJump, absolute_jump}
 use Rattle.detour.specs.Taken.{taken_bytes}
 use Rattle.detour.specs.Detours.{DetourState, IsDetour, IsJumpOf, patch_of}
-use Rattle.detour.specs.Writes.{WriteState, write_at, first_count, writes_of, written, written_by, after_writes, IsBetween, IsSafe, IsSafeOrder, IsPatchSafe}
+use Rattle.detour.specs.Writes.{WriteState, write_at, first_count, writes_of, written_by, after_writes, IsBetween, IsSafe, IsSafeOrder, IsPatchSafe}
 
 -- ---- the writes
 

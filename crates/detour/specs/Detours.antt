@@ -16,7 +16,7 @@ use Rattle.detour.specs.declared.parts.JumpForm.TheVariants.{Near, Relay, Absolu
 use Rattle.detour.specs.declared.parts.Parts.{Parts}
 use Rattle.detour.specs.declared.start.StartTarget.{StartTarget}
 use Rattle.detour.specs.declared.start.MoveRule.{MoveRule}
-use Rattle.detour.specs.Taken.{AreTaken, IsBadCode, IsTooSmall, IsCodeBehind, taken_bytes, first_end, first_code_behind}
+use Rattle.detour.specs.Taken.{AreTaken, IsBadCode, IsTooSmall, IsCodeBehind, taken_bytes, first_code_behind}
 use Rattle.detour.specs.Starts.{starts_of, places_of}
 use Rattle.detour.specs.Calls.{call_in}
 use Rattle.detour.specs.Jumps.{IsNearJump, IsOutOfReach, absolute_jump}

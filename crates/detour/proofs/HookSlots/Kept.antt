@@ -22,7 +22,7 @@ use Rattle.detour.specs.declared.hook_slots.refusals.InstallError.{InstallError}
 use Rattle.detour.specs.declared.hook_slots.refusals.InstallError.TheVariants.{Memory, Full, NoDetour, TooLong, InRange, Patched}
 use Rattle.detour.specs.HookSlots.State.{HooksState, range_of, hook_place, no_hooks, with_hook, hook_at}
 use Rattle.detour.specs.HookSlots.Opening.{make_refusal}
-use Rattle.detour.specs.HookSlots.Patches.{patch_refusal, PatchesAreApart}
+use Rattle.detour.specs.HookSlots.Patches.{patch_refusal}
 use Rattle.detour.specs.HookSlots.Installing.{IsHookPlaced, place_refusal, install_place, hooks_after, IsInstalled}
 use Rattle.detour.specs.HookSlots.Removing.{remove_of, remove_answer, without_hook, after_removal}
 use Rattle.detour.specs.declared.hook_slots.commands.HookCommand.{HookCommand}

@@ -1,5 +1,5 @@
 -- Patches that lie apart: what the search for one that another meets says, and one hook more or less.
-use Rattle.std.proofs.Common.{◌≡◌, ℕ, Bool, true, false, ◌&&◌, ◌||◌, if◌then◌else◌, not, List, [], length, find, refl, subst, ◌∙◌, nat_lt, nat_eq, Option, Some, None, Result, Err}
+use Rattle.std.proofs.Common.{◌≡◌, ℕ, Bool, true, false, ◌&&◌, ◌||◌, if◌then◌else◌, not, List, [], length, find, refl, subst, ◌∙◌, nat_lt, nat_eq, Option, Some, None, Err}
 use Rattle.std.specs.Prelude.{All}
 use Rattle.std.proofs.lemmas.List.Elements.{All-nil, All-filter, All-weaker}
 use Rattle.std.proofs.lemmas.List.Kept.{AllPairs-filter}

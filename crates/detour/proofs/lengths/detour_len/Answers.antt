@@ -2,7 +2,7 @@ use Rattle.std.proofs.Common.{ℕ, subst, ap, ◌∙◌}
 use Rattle.std.specs.Prelude.{IfOk}
 use Rattle.x86_values.specs.Wrapping.{modulo_width}
 use Rattle.detour.specs.Rules.{move_rule}
-use Rattle.detour.specs.Lengths.{IsDetourLength, IsLengthFor}
+use Rattle.detour.specs.Lengths.{IsDetourLength}
 use Rattle.detour.proofs.Enough.{enough_for, enough_plain}
 use Rattle.detour.proofs.Bounded.{answer_short}
 use Rattle.detour.proofs.lengths.detour_len.Goals as goal

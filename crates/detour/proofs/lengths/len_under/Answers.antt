@@ -1,4 +1,3 @@
-use Rattle.std.proofs.Common.{inl}
 use Rattle.detour.proofs.Enough.{far_is_one}
 use Rattle.detour.proofs.lengths.len_under.Goals as goal
 
