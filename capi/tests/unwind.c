@@ -37,7 +37,7 @@ __asm__(
     "    push %r13\n    .cfi_adjust_cfa_offset 8\n    .cfi_rel_offset r13, 0\n"
     "    push %r14\n    .cfi_adjust_cfa_offset 8\n    .cfi_rel_offset r14, 0\n"
     "    push %r15\n    .cfi_adjust_cfa_offset 8\n    .cfi_rel_offset r15, 0\n"
-    "    sub $104, %rsp\n    .cfi_adjust_cfa_offset 104\n"
+    "    sub $136, %rsp\n    .cfi_adjust_cfa_offset 136\n"
     "    mov %rdi, %r11\n"
     "    mov %rsi, %r10\n"
     "    mov 48(%r10), %rax\n    mov %rax, (%rsp)\n"
@@ -52,6 +52,9 @@ __asm__(
     "    mov 120(%r10), %rax\n    mov %rax, 72(%rsp)\n"
     "    mov 128(%r10), %rax\n    mov %rax, 80(%rsp)\n"
     "    mov 136(%r10), %rax\n    mov %rax, 88(%rsp)\n"
+    "    mov 144(%r10), %rax\n    mov %rax, 96(%rsp)\n"
+    "    mov 152(%r10), %rax\n    mov %rax, 104(%rsp)\n"
+    "    mov 160(%r10), %rax\n    mov %rax, 112(%rsp)\n"
     "    mov (%r10), %rdi\n    mov 8(%r10), %rsi\n    mov 16(%r10), %rdx\n"
     "    mov 24(%r10), %rcx\n    mov 32(%r10), %r8\n    mov 40(%r10), %r9\n"
     "    movabs $0x1003100310031003, %rbx\n"
@@ -65,7 +68,7 @@ __asm__(
     "    popf\n    .cfi_adjust_cfa_offset -8\n"
     "    call *%r11\n"
     "known_back:\n"
-    "    add $104, %rsp\n    .cfi_adjust_cfa_offset -104\n"
+    "    add $136, %rsp\n    .cfi_adjust_cfa_offset -136\n"
     "    pop %r15\n    .cfi_adjust_cfa_offset -8\n    .cfi_restore r15\n"
     "    pop %r14\n    .cfi_adjust_cfa_offset -8\n    .cfi_restore r14\n"
     "    pop %r13\n    .cfi_adjust_cfa_offset -8\n    .cfi_restore r13\n"
@@ -79,7 +82,7 @@ __asm__(
     ".popsection\n");
 
 /* a call of the library's function itself; P passes a pointer */
-#define CALL(f, ...) with_known((void (*)(void))f, (const uint64_t[18]){__VA_ARGS__})
+#define CALL(f, ...) with_known((void (*)(void))f, (const uint64_t[21]){__VA_ARGS__})
 #define P(pointer) ((uint64_t)(uintptr_t)(pointer))
 
 /* the numbers of these registers in DWARF */
