@@ -21,7 +21,7 @@
 #include <unwind.h>
 
 /*
- * with_known(f, args) calls f with eighteen arguments, a known number in each register that a call keeps, and the trap flag;
+ * with_known(f, args) calls f with twenty-one arguments, a known number in each register that a call keeps, and the trap flag;
  * known_back is the address behind the call. No frame of a compiler is between, which would keep these registers itself.
  */
 int64_t with_known(void (*f)(void), const uint64_t *args);
