@@ -1,4 +1,3 @@
-use Rattle.c_calls.specs.Numbers.{bits_numbered}
 use Rattle.c_calls.specs.Hooks.{start_numbered}
 use Rattle.c_calls.specs.Ruled.{rules_numbered}
 use Rattle.c_calls.proofs.KeptPairs.{kept-pairs}
@@ -6,6 +5,6 @@ use Rattle.c_calls.proofs.kept.make_kept_detour.Goals as goal
 
 pub put_kept-requires : goal.put_kept-requires
 put_kept-requires c = record {
-  pairs = kept-pairs (bits_numbered c.args.bits) (rules_numbered (start_numbered c.args.start) c.args.rules) c.args.ip c.args.code.now c.args.to
+  pairs = kept-pairs c.bits_numbered-bits.result (rules_numbered (start_numbered c.args.start) c.args.rules) c.args.ip c.args.code.now c.args.to
       c.args.place c.args.entries.now c.kept_of-answer.result c.kept_of-answer.ensures;
 }
