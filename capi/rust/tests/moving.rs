@@ -267,6 +267,7 @@ fn hooks_follow_rules() {
 
 #[test]
 fn hooks_take_other_forms() {
+    use feddurzai::DetourRules;
     let rules = DetourRules::default();
     // endbr64; cmp byte ptr [rdi], 0; je to the end; inc rdi; a jump back; ret
     let to_first = b"\xF3\x0F\x1E\xFA\x80\x3F\x00\x74\x05\x48\xFF\xC7\xEB\xF2\xC3";
