@@ -56,7 +56,8 @@ extension-le : (front : List ℕ) (row : Row) → length front ≤ 4 → length 
 extension-le front row h =
     omega (arith, short_append front (extension_letters row) 4 2 h (extension_letters-le row))
 
-att_name-le : (bits : Bits) (row : Row) (name : List ℕ) (instr : Instr) → length name ≤ 20 → length (att_name bits row name instr) ≤ 21
+-- a name with its letters has at most 21
+pub att_name-le : (bits : Bits) (row : Row) (name : List ℕ) (instr : Instr) → length name ≤ 20 → length (att_name bits row name instr) ≤ 21
 unfolding att_name
 att_name-le bits row name instr h =
     short_if (is_zero_extension name) _ _ 21 (extension-le (codes "movz") row (omega arith))
@@ -118,7 +119,8 @@ att_operand-le bits instr (Far selector offset) =
     )
 att_operand-le bits instr (MemOperand m) = att_memory-le instr.seg (text_address_size bits instr) m
 
-star-le : (row : Row) (name : List ℕ) (n : ℕ) → length (star row name n) ≤ 1
+-- a star has at most 1
+pub star-le : (row : Row) (name : List ℕ) (n : ℕ) → length (star row name n) ≤ 1
 unfolding star
 star-le row name n = search (rules, short_if)
 

@@ -2,8 +2,8 @@
 #![tactic(auto)]
 
 pub mod laws;
-mod names;
-mod operands;
+pub mod names;
+pub mod operands;
 
 ghost use Rattle.std.specs.Prelude.{◌≡◌, ◌≤◌, ◌+◌, ◌++◌, length, IsTrue};
 ghost use Rattle.std.specs.Str.{IsAscii};

@@ -159,7 +159,7 @@ fn is_branch_name(name: &[u8]) -> bool
 /// Appends the star in front of the target of an indirect call or jump.
 #[inline]
 #[tactic(auto, unfolding(crate::specs::Operands::star))]
-fn append_star<const N: usize>(out: &mut ArrayVec<u8, N>, row: &Row, name: &[u8])
+pub fn append_star<const N: usize>(out: &mut ArrayVec<u8, N>, row: &Row, name: &[u8])
     requires { array_vec_len out.old + length (spec.star row.now name.now 0) ≤ N }
     ensures { out.new.items ≡ out.old.items ++ spec.star row.now name.now 0 }
 {
@@ -168,10 +168,10 @@ fn append_star<const N: usize>(out: &mut ArrayVec<u8, N>, row: &Row, name: &[u8]
     }
 }
 
-/// Whether no operand follows operand `n`.
+/// Returns whether no operand follows operand `n`.
 #[inline]
 #[tactic(auto, unfolding(crate::specs::Operands::is_last))]
-fn is_last(instr: &Instr, n: usize) -> bool
+pub fn is_last(instr: &Instr, n: usize) -> bool
     requires { n < 4 }
     ensures { result ≡ spec.is_last instr.now n }
 {

@@ -3,9 +3,10 @@
 //!     decode_speed WORK BITS PASSES
 //!     decode_speed count BITS
 //!
-//! WORK is `read`; `print` to make the Intel text of each instruction too; `encode` to encode each at its own address; or `check` to encode
-//! each and read it again. Passes are repeated until two seconds of processor time have gone by, or PASSES times where that number is above
-//! 0. `check` prints a second line: how many are shorter, as long, longer or refused, and how many are not read as the same instruction.
+//! WORK is `read`; `print` to make the Intel text of each instruction too; `pieces` to make the pieces of that text; `encode` to encode each at
+//! its own address; or `check` to encode each and read it again. Passes are repeated until two seconds of processor time have gone by, or PASSES
+//! times where that number is above 0. `check` prints a second line: how many are shorter, as long, longer or refused, and how many are not read
+//! as the same instruction.
 //!
 //! `count` makes one pass of each work and prints what was counted, and no time.
 #![tactic(auto)]
@@ -41,6 +42,7 @@ fn wanted_of(word: &str) -> Wanted {
     match word {
         "count" => Wanted::Counts,
         "print" => Wanted::Time(Work::Print),
+        "pieces" => Wanted::Time(Work::Pieces),
         "encode" => Wanted::Time(Work::Encode),
         "check" => Wanted::Time(Work::Check),
         _ => Wanted::Time(Work::Read),
@@ -52,6 +54,7 @@ fn name_of(work: Work) -> &'static str {
     match work {
         Work::Read => "feddurzai",
         Work::Print => "feddurzai, Intel text",
+        Work::Pieces => "feddurzai, pieces",
         Work::Encode => "feddurzai, encoded",
         Work::Check => "feddurzai, read again",
     }
@@ -69,7 +72,7 @@ fn tell_spellings(rt: &HostRuntime, spellings: &Spellings) -> io::Result<()> {
 /// What a pass of a work counts beside instructions and errors.
 fn tell_result(rt: &HostRuntime, work: Work, counts: &Counts) -> io::Result<()> {
     match work {
-        Work::Read => Ok(()),
+        Work::Read | Work::Pieces => Ok(()),
         Work::Print => println!(rt; "text {} bytes", counts.text),
         Work::Encode | Work::Check => tell_spellings(rt, &counts.spellings),
     }

@@ -8,6 +8,8 @@ use arrayvec::ArrayVec;
 use decoder::{UNREAD, decode, decode_onto};
 use encoder::encode;
 use intel_text::print_to;
+use text_parts::style::Style;
+use text_pieces::pieces;
 use x86_values::{Bits, Decoded, Instr, same};
 
 /// What is done with each instruction.
@@ -17,6 +19,8 @@ pub enum Work {
     Read,
     /// Its text in the Intel style is made.
     Print,
+    /// The pieces of its text in the Intel style are made.
+    Pieces,
     /// It is encoded at its own address.
     Encode,
     /// It is encoded at its own address, and those bytes are read.
@@ -42,7 +46,7 @@ pub struct Counts {
     pub errors: u64,
     /// Something of each instruction, so that its reading is not left out.
     pub sum: u64,
-    /// The bytes of all texts.
+    /// The bytes of all texts, or all pieces.
     pub text: u64,
     pub spellings: Spellings,
 }
@@ -146,6 +150,10 @@ fn sweep<const BITS: u32>(bytes: &[u8], bits: Bits, work: Work) -> Counts
                     Work::Print => {
                         let len = print(&mut page, bits, &decoded.instr);
                         counts.text = counts.text.wrapping_add(len as u64);
+                    }
+                    Work::Pieces => {
+                        let found = pieces(Style::Intel, bits, &decoded.instr);
+                        counts.text = counts.text.wrapping_add(found.len() as u64);
                     }
                     Work::Encode => {
                         write::<BITS>(&mut counts.spellings, bits, ip, &decoded, false)

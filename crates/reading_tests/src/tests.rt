@@ -8,6 +8,8 @@ mod front_tests;
 mod info_tests;
 mod notation_tests;
 mod offset_tests;
+mod option_tests;
+mod piece_tests;
 mod read_bytes;
 mod row_tests;
 mod style_tests;

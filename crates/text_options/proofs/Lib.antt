@@ -1,0 +1,5 @@
+pub mod Kept
+pub mod Short
+pub mod Cover
+pub mod Placed
+pub mod Plain

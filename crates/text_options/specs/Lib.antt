@@ -1,0 +1,12 @@
+pub mod Defaults
+pub mod Answers
+pub mod Kept
+pub mod Spelling
+pub mod Signed
+pub mod Sizes
+pub mod Views
+pub mod Values
+pub mod Symbolic
+pub mod Parts
+pub mod Placed
+pub mod Changed

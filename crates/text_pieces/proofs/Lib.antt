@@ -1,0 +1,10 @@
+pub mod Grown
+pub mod Short
+pub mod AttShort
+pub mod Joined
+pub mod JoinedWords
+pub mod JoinedAddresses
+pub mod JoinedLayout
+pub mod JoinedAtt
+pub mod Placed
+pub mod Whole
