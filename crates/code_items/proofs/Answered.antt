@@ -25,7 +25,7 @@ use Rattle.code_items.proofs.Wrapping.{wrapped-same}
 -- ---- the old end
 
 -- code that does not pass has no bytes, or ends inside the address space
-not_past : (bits : Bits) (ip : ℕ) (bytes : List ℕ) → old_pass bits ip bytes ≡ None → 0 < length bytes → ip + length bytes ≤ 2 ^ width bits
+pub not_past : (bits : Bits) (ip : ℕ) (bytes : List ℕ) → old_pass bits ip bytes ≡ None → 0 < length bytes → ip + length bytes ≤ 2 ^ width bits
 unfolding old_pass
 not_past bits ip bytes e some =
     elim (cases_Bool (length bytes == 0)) [

@@ -1,4 +1,13 @@
 pub mod Answered
+pub mod AnyAnswered
+pub mod AnyBytes
+pub mod AnyCode
+pub mod AnyLists
+pub mod AnyNumbers
+pub mod AnyOrder
+pub mod AnyPlanned
+pub mod AnySoFar
+pub mod AnyStanding
 pub mod Formed
 pub mod InOrder
 pub mod ReadSoFar

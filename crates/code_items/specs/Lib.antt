@@ -2,3 +2,9 @@ pub mod Items
 pub mod Iteration
 pub mod Moving
 pub mod Sound
+pub mod AnyItems
+pub mod AnyPlan
+pub mod AnyMoved
+pub mod AnyWriting
+pub mod AnyLawsBelow
+pub mod AnyStanding

@@ -2,10 +2,18 @@
 //! addresses.
 #![tactic(auto)]
 
+mod any_items;
+pub mod any_laws;
+mod any_laws_below;
+mod any_moving;
+mod any_plan;
+mod any_writing;
 mod items;
 mod moving;
 mod reading;
 
+pub use any_items::{AnyItem, UnlistedItem, read_any_items};
+pub use any_moving::{MovedAnyCode, move_code_unlisted};
 pub use items::{CodeItem, CodeItems, CodeIter};
 pub use moving::{MoveCodeError, MovedCode, move_code, move_items};
 pub use reading::{ReadError, read_items};

@@ -99,7 +99,7 @@ impl MovedCode {
 
 /// Returns the address after some code, if it exceeds the address space of the mode. Code without bytes has no end.
 #[tactic(auto, unfolding(crate::specs::Items::old_pass))]
-fn old_pass(bits: Bits, old: u64, bytes: &[u8]) -> Option<u128>
+pub(crate) fn old_pass(bits: Bits, old: u64, bytes: &[u8]) -> Option<u128>
     ensures { result ≡ spec.old_pass bits old bytes.now }
 {
     if bytes.is_empty() {

@@ -3,6 +3,7 @@
 mod block_tests;
 mod call_tests;
 mod compare;
+mod data_tests;
 mod goal_tests;
 mod graph_tests;
 mod items;
@@ -14,4 +15,6 @@ mod sight_tests;
 mod size_tests;
 mod slot_model_tests;
 mod slot_tests;
+mod text_tests;
+mod unlisted_move_tests;
 mod unlisted_tests;
