@@ -1,12 +1,13 @@
 -- The bytes of a routine are read as its instructions, and its labels have the addresses to which they go.
-use Rattle.std.proofs.Common.{◌≡◌, ℕ, ◌<◌, Bool, true, false, not, List, [], ◌∷◌, ◌++◌, length, map, Option, Some, None, refl, subst, ap, ◌∙◌, arith}
-use Rattle.std.specs.Prelude.{slice_get, if◌then◌else◌, Result, Ok, Err}
-use Rattle.std.specs.List.{range_with_len}
+use Rattle.std.proofs.Common.{◌≡◌, ℕ, zero, suc, ◌+◌, ◌<◌, ◌≤◌, inr, Bool, true, false, not, List, [], ◌∷◌, ◌++◌, length, map, replicate, Option, Some, None, refl, sym, subst, ap, ◌∙◌, arith}
+use Rattle.std.specs.Prelude.{slice_get, if◌then◌else◌, All, Result, Ok, Err}
+use Rattle.std.specs.List.{range_with_len, AllZip}
+use Rattle.std.proofs.Math.Seq.{get_or-append_seam}
 use Rattle.std.proofs.lemmas.Bool.{lt-ltb, ltb-true}
 use Rattle.std.proofs.lemmas.List.FromFn.{length-map-range_with_len, get_or-map-range_with_len}
 use Rattle.std.proofs.lemmas.Option.{slice_get-get_or}
-use Rattle.std.proofs.lemmas.List.{length-append}
-use Rattle.std.proofs.lemmas.List.Elements.{All-append, All-cons, All-nil}
+use Rattle.std.proofs.lemmas.List.{length-append, length-replicate}
+use Rattle.std.proofs.lemmas.List.Elements.{All-append, All-cons, All-nil, All-replicate}
 use Rattle.x86_values.specs.declared.Bits.{Bits}
 use Rattle.x86_values.specs.declared.Instr.{Instr}
 use Rattle.x86_values.specs.Wrapping.{modulo_width}
@@ -14,7 +15,7 @@ use Rattle.row_relation.specs.PlainLaws.Plain.{IsPlainlySpelled}
 use Rattle.opcode_rows.specs.Table.{table}
 use Rattle.branch_sizes.specs.declared.plan.Branch.{Branch}
 use Rattle.branch_sizes.specs.declared.plan.Goal.TheVariants.{Inside}
-use Rattle.branch_sizes.specs.Layout.{block_number, place}
+use Rattle.branch_sizes.specs.Layout.{place}
 use Rattle.branch_sizes.specs.MoveLayout.Laid.{goal_value, goal_address}
 use Rattle.move_goals.specs.MovedTargets.Targets.{target_of, plain_length}
 use Rattle.move_goals.specs.declared.items.Placed.{Placed}
@@ -27,8 +28,12 @@ use Rattle.block_encoder.specs.declared.error.PlanError.TheVariants as plan_erro
 use Rattle.block_encoder.specs.ByPlan.{IsMovedBy, IsPlanAnswer}
 use Rattle.block_encoder.specs.Planned.{as_moving}
 use Rattle.code_assembler.specs.LawsBelow.{AssemblerLawsBelow}
-use Rattle.code_assembler.specs.Routine.{RoutineState, IsRoutine, label_place, aim_at, stands_before, is_aimed, first_unplaced, stand_goal, aim_goal, routine_goals, routine_plan}
-use Rattle.code_assembler.specs.Finished.{start_at, finished_by, GoesToLabel, IsAssembled, IsFinished}
+use Rattle.code_assembler.specs.declared.error.FinishError.{FinishError}
+use Rattle.code_assembler.specs.StandIn.{stand_in, IsFilled}
+use Rattle.code_assembler.specs.Routine.{RoutineState, IsRoutine, HasAdded, label_place, aim_at, filled_at, stands_before, is_aimed, first_unplaced, stand_goal, aim_goal, routine_goals, routine_plan, with_byte}
+use Rattle.code_assembler.specs.Built.{with_bytes}
+use Rattle.code_assembler.specs.Finished.{AssembledState, start_at, made_of, IsMade, GoesToLabel, IsLaidOut, IsLaidAnswer}
+use Rattle.code_assembler.proofs.Placing.{as_many, zip_append, zip_bytes, in_first, plain_bytes, code_stands, code_read, data_stands}
 
 -- an instruction with an encoding at an address is well placed there
 pub encoded_placed : AssemblerLawsBelow → (bits : Bits) (ip len : ℕ) (i : Instr) (bytes : List ℕ) → len ≡ plain_length bits i
@@ -38,22 +43,73 @@ encoded_placed laws bits ip len i bytes is plain =
     let size = laws.targets.spelled-length bits (modulo_width bits ip) bytes i spelled in
     record { some = omega (arith, is, size.0); few = omega (arith, is, size.1); bytes = bytes; spelled = spelled }
 
--- a routine with one more instruction is one
-pub one_more : (s : RoutineState) (item : Placed) (aim : Option ℕ) → IsRoutine s → IsPlaced s.bits item → length s.items < 65536
-    → IsRoutine (record s { items = s.items ++ item ∷ []; aims = s.aims ++ aim ∷ [] })
-one_more s item aim is placed few = record {
-  aimed = omega (arith, length-append s.aims (aim ∷ []), length-append s.items (item ∷ []), is.aimed);
-  placed = All-append (IsPlaced s.bits) s.items (item ∷ []) is.placed (All-cons (IsPlaced s.bits) item [] placed (All-nil (IsPlaced s.bits)));
-  few = omega (arith, length-append s.items (item ∷ []), few);
+-- a routine with more items is one
+pub more_items : (s : RoutineState) (items : List Placed) (aims filled : List (Option ℕ)) → IsRoutine s → length aims ≡ length items
+    → AllZip (IsFilled s.bits) filled items → All (IsPlaced s.bits) items → length s.items + length items ≤ 65536
+    → IsRoutine (record s { items = s.items ++ items; aims = s.aims ++ aims; filled = s.filled ++ filled })
+more_items s items aims filled is many stand placed few = record {
+  aimed = omega (arith, length-append s.aims aims, length-append s.items items, is.aimed, many);
+  stand_in = zip_append s.bits s.filled filled s.items items is.stand_in stand;
+  placed = All-append (IsPlaced s.bits) s.items items is.placed placed;
+  few = omega (arith, length-append s.items items, few);
   few_labels = is.few_labels;
 }
+
+-- a routine with one more instruction is one
+pub one_more : (s : RoutineState) (item : Placed) (aim : Option ℕ) → IsRoutine s → IsPlaced s.bits item → length s.items < 65536
+    → IsRoutine (record s { items = s.items ++ item ∷ []; aims = s.aims ++ aim ∷ []; filled = s.filled ++ None ∷ [] })
+one_more s item aim is placed few =
+    more_items s (item ∷ []) (aim ∷ []) (None ∷ []) is refl (tt, tt) (All-cons (IsPlaced s.bits) item [] placed (All-nil (IsPlaced s.bits))) (omega (arith, few))
+
+-- so is one with more bytes of data
+pub more_bytes : (s : RoutineState) (bytes : List ℕ) → IsRoutine s → IsPlaced s.bits (stand_in s.bits) → length s.items + length bytes ≤ 65536
+    → IsRoutine (with_bytes s bytes)
+more_bytes s bytes is placed few =
+    more_items s (replicate (length bytes) (stand_in s.bits)) (replicate (length bytes) None) (map Some bytes) is
+    (omega (arith, length-replicate (length bytes) (stand_in s.bits), length-replicate {A = Option ℕ} (length bytes) None)) (zip_bytes s.bits bytes)
+    (All-replicate (IsPlaced s.bits) (length bytes) (stand_in s.bits) placed)
+    (omega (arith, length-replicate (length bytes) (stand_in s.bits), few))
+
+-- ---- the end
+
+-- what is added at the end goes to no label
+aim-end : (aims : List (Option ℕ)) (j : ℕ) → aim_at (aims ++ None ∷ []) j ≡ aim_at aims j
+aim-end [] zero = refl
+aim-end [] (suc j) = refl
+aim-end (a ∷ more) zero = refl
+aim-end (a ∷ more) (suc j) = aim-end more j
+
+-- so it is never the first whose label stands before none
+pub unplaced-end : AssemblerLawsBelow → (labels aims : List (Option ℕ)) (count : ℕ)
+    → first_unplaced labels (aims ++ None ∷ []) count ≡ first_unplaced labels aims count
+unfolding first_unplaced
+unplaced-end laws labels aims count =
+    laws.firsts.first_below_congr (λ k. not (is_aimed labels count (aim_at (aims ++ None ∷ []) k))) (λ k. not (is_aimed labels count (aim_at aims k))) count
+    (λ j lt. ap (λ (o : Option ℕ). not (is_aimed labels count o)) (aim-end aims j))
+
+-- the first whose label stands before none is the same with a byte behind the routine
+pub end_unplaced : AssemblerLawsBelow → (s : RoutineState) → let t = with_byte s 0xCC in
+    first_unplaced t.labels t.aims (length t.items) ≡ first_unplaced s.labels s.aims (length s.items + 1)
+end_unplaced laws s =
+    unplaced-end laws s.labels s.aims (length (s.items ++ stand_in s.bits ∷ []))
+    ∙ ap (first_unplaced s.labels s.aims) (length-append s.items (stand_in s.bits ∷ []))
+
+-- a routine with a byte behind it is one
+pub end_more : (s : RoutineState) → IsRoutine s → IsPlaced s.bits (stand_in s.bits) → length s.items < 65536 → IsRoutine (with_byte s 0xCC)
+end_more s is placed few =
+    more_items s (stand_in s.bits ∷ []) (None ∷ []) (Some 0xCC ∷ []) is refl (refl, tt)
+    (All-cons (IsPlaced s.bits) (stand_in s.bits) [] placed (All-nil (IsPlaced s.bits))) (omega (arith, few))
+
+-- all but the last item of a routine with a byte behind it were added by callers
+pub end_added : (s : RoutineState) → IsRoutine s → HasAdded (with_byte s 0xCC) (length s.items)
+end_added s is =
+    let many = as_many s.bits s.filled s.items is.stand_in in
+    let last : filled_at (s.filled ++ Some 0xCC ∷ []) (length s.filled) ≡ Some 0xCC = get_or-append_seam s.filled (Some 0xCC) [] None in
+    inr (omega (arith, length-append s.items (stand_in s.bits ∷ [])), subst (λ (n : ℕ). filled_at (s.filled ++ Some 0xCC ∷ []) n ≡ Some 0xCC) many last)
 
 -- the instructions of a routine are well placed
 pub all_placed : (s : RoutineState) → IsRoutine s → ArePlaced s.bits s.items
 all_placed s is k lt = is.placed k no_item lt
-
-in_first : (items : List Placed) (base k : ℕ) → k < length items → block_number (one_span items base) k ≡ 0
-in_first items base k lt = rw (lt-ltb k (length items) lt) refl
 
 -- ---- labels
 
@@ -106,10 +162,10 @@ module _ (laws : AssemblerLawsBelow) where
       ∙ (slice_get-get_or (map f (range_with_len 0 n)) j 0 (omega (arith, length-map-range_with_len f 0 n, lt))
       ∙ ap Some (get_or-map-range_with_len f 0 n j j 0 lt (omega arith))))
 
-  to_label : (s : RoutineState) (base : ℕ) → first_unplaced s.labels s.aims (length s.items) ≡ None → (m : MovedLists)
+  to_label : (s : RoutineState) (base count : ℕ) → first_unplaced s.labels s.aims (length s.items) ≡ None → (m : MovedLists)
       (moved : IsMovedBy s.bits s.items (routine_plan s base) m) → (k label : ℕ) → k < length s.items → aim_at s.aims k ≡ Some label
-      → GoesToLabel s base moved.layout (record { moved = m; labels = s.labels }) k label
-  to_label s base none m moved k label lt aim =
+      → GoesToLabel s base moved.layout (made_of m s.filled s.labels base count) k label
+  to_label s base count none m moved k label lt aim =
       let there = label_stands s.labels s.aims (length s.items) none k label lt aim in
       record {
         stands = there.number;
@@ -119,22 +175,25 @@ module _ (laws : AssemblerLawsBelow) where
         goal = goal_is s base moved.layout k label there.number lt aim there.is there.within;
       }
 
-  -- **a routine whose plan is moved is assembled**
-  pub assembled : (s : RoutineState) (base : ℕ) → IsRoutine s → first_unplaced s.labels s.aims (length s.items) ≡ None → (m : MovedLists)
-      → IsMovedBy s.bits s.items (routine_plan s base) m → IsAssembled s base (record { moved = m; labels = s.labels })
+  -- **a routine whose plan is moved is laid out, with its data**
+  pub laid : (s : RoutineState) (base count : ℕ) → IsRoutine s → HasAdded s count → first_unplaced s.labels s.aims (length s.items) ≡ None → (m : MovedLists)
+      → IsMovedBy s.bits s.items (routine_plan s base) m → IsLaidOut s base count (made_of m s.filled s.labels base count)
   unfolding routine_plan
-  assembled s base is none m moved =
+  laid s base count is added none m moved =
       let goals = routine_goals s.labels s.aims s.items in
       let spans = one_span s.items base in
       let of = laws.plans.one_span-of s.items base in
       let well = all_placed s is in
+      let places : (k : ℕ) → k < length s.items → StandsAtPlace s.bits s.items (routine_plan s base) moved.layout 0 k =
+      λ k lt. subst (λ (b : ℕ). StandsAtPlace s.bits s.items (routine_plan s base) moved.layout b k) (in_first s.items base k lt)
+      (laws.moved.places s.bits s.items spans goals of m moved k lt) in
       record {
         all_stand = none;
         moved = moved;
         labels = refl;
+        added = refl;
         read = laws.moved.read s.bits s.items spans goals of well m moved 0 (omega arith);
-        places = λ k lt. subst (λ (b : ℕ). StandsAtPlace s.bits s.items (routine_plan s base) moved.layout b k) (in_first s.items base k lt)
-            (laws.moved.places s.bits s.items spans goals of m moved k lt);
+        places = places;
         goals = λ k lt. subst (λ (b : ℕ). GoesToGoal s.bits s.items (routine_plan s base) moved.layout b k) (in_first s.items base k lt) (record {
           stays = λ none. laws.moved.stays s.bits s.items spans goals well moved.layout k lt none;
           address = λ none. laws.moved.address s.bits s.items spans goals well moved.layout k lt none;
@@ -143,13 +202,28 @@ module _ (laws : AssemblerLawsBelow) where
           slot = λ far. laws.moved.slots s.bits s.items spans goals of m moved k lt far;
           over = λ n more. laws.moved.over s.bits s.items spans goals moved.layout k n more;
         });
-        to_labels = λ k label lt aim. to_label s base none m moved k label lt aim;
+        to_labels = λ k label lt aim. to_label s base count none m moved k label lt aim;
+        addresses = λ label j at lt. start_is (place (routine_plan s base) moved.layout) (length s.items) m.starts (label_place s.labels label) j
+            moved.lists.starts at lt;
+        bytes = refl;
+        plain = λ no_data. plain_bytes laws s base count is added m moved places no_data;
+        code = λ k lt without. code_stands laws s base count is added m moved places k lt without;
+        decoded = λ k lt without. code_read laws s base count is added m moved places k lt without;
+        filled = λ k byte lt some. data_stands laws s base count is added m moved places k byte lt some;
       }
 
   -- **the answer is what a move by the plan gives**
-  pub finished : (s : RoutineState) (base : ℕ) → IsRoutine s → first_unplaced s.labels s.aims (length s.items) ≡ None → (answer : Result MovedLists PlanError)
-      → IsPlanAnswer s.bits s.items (routine_plan s base) (as_moving answer) → IsFinished s base (finished_by answer s.labels)
-  finished s base is none (Ok m) moved = assembled s base is none m moved
-  finished s base is none (Err plan_error.Memory) h = none
-  finished s base is none (Err (plan_error.Wraps end)) h = (none, h)
-  finished s base is none (Err (plan_error.TooFar at target)) h = (none, h)
+  pub finished : (s : RoutineState) (base count : ℕ) → IsRoutine s → HasAdded s count → first_unplaced s.labels s.aims (length s.items) ≡ None
+      → (answer : Result MovedLists PlanError) → IsPlanAnswer s.bits s.items (routine_plan s base) (as_moving answer)
+      → (made : Result AssembledState FinishError) → IsMade answer s.filled s.labels base count made → IsLaidAnswer s base count made
+  finished s base count is added none (Ok m) moved (Ok a) e =
+      subst (λ (b : AssembledState). IsLaidOut s base count b) (sym e) (laid s base count is added none m moved)
+  finished s base count is added none (Ok m) moved (Err why) e = subst (λ (w : FinishError). IsLaidAnswer s base count (Err w)) (sym e) none
+  finished s base count is added none (Err plan_error.Memory) h (Ok a) e = absurd e
+  finished s base count is added none (Err plan_error.Memory) h (Err why) e = subst (λ (w : FinishError). IsLaidAnswer s base count (Err w)) (sym e) none
+  finished s base count is added none (Err (plan_error.Wraps end)) h (Ok a) e = absurd e
+  finished s base count is added none (Err (plan_error.Wraps end)) h (Err why) e =
+      subst (λ (w : FinishError). IsLaidAnswer s base count (Err w)) (sym e) (none, h)
+  finished s base count is added none (Err (plan_error.TooFar at target)) h (Ok a) e = absurd e
+  finished s base count is added none (Err (plan_error.TooFar at target)) h (Err why) e =
+      subst (λ (w : FinishError). IsLaidAnswer s base count (Err w)) (sym e) (none, h)

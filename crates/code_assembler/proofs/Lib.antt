@@ -1,2 +1,11 @@
 pub mod Fit
+pub mod Longer
+pub mod Filled
+pub mod StandIn
+pub mod Four
+pub mod Placing
 pub mod AtLabels
+pub mod Cutting
+pub mod Trims
+pub mod Telling
+pub mod Going

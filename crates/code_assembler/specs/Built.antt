@@ -1,5 +1,5 @@
 -- What is added to a routine, and when nothing is.
-use Rattle.std.specs.Prelude.{ℕ, nat_lt, is_none, is_some, if◌then◌else◌, List, [], ◌∷◌, ◌++◌, length, slice_set, unwrap_or, Option, Some, None, Result, Ok, Err}
+use Rattle.std.specs.Prelude.{ℕ, nat_lt, is_none, is_some, if◌then◌else◌, List, [], ◌∷◌, ◌++◌, length, map, replicate, slice_set, unwrap_or, Option, Some, None, Result, Ok, Err, nat_le, ◌+◌}
 use Rattle.x86_values.specs.declared.Bits.{Bits}
 use Rattle.x86_values.specs.declared.Instr.{Instr}
 use Rattle.plain_spelling.specs.declared.NoSpelling.{NoSpelling}
@@ -8,6 +8,7 @@ use Rattle.move_goals.specs.MovedTargets.Targets.{target_of, plain_length}
 use Rattle.move_goals.specs.declared.items.Placed.{Placed}
 use Rattle.code_assembler.specs.declared.error.BuildError.{BuildError}
 use Rattle.code_assembler.specs.declared.error.BuildError.TheVariants.{TooMany, Unknown, PlacedTwice, NoTarget, NotEncoded}
+use Rattle.code_assembler.specs.StandIn.{stand_in}
 use Rattle.code_assembler.specs.Routine.{RoutineState, label_place}
 
 -- ---- labels
@@ -20,7 +21,7 @@ with_label s = record s { labels = s.labels ++ None ∷ [] }
 abbrev pub label_refusal : RoutineState → Option BuildError
 label_refusal s = if nat_lt (length s.labels) 65536 then None else Some TooMany
 
--- a label stands behind the last instruction
+-- a label stands behind the last item
 abbrev pub with_place : RoutineState → ℕ → RoutineState
 with_place s label = record s { labels = slice_set s.labels label (Some (length s.items)) }
 
@@ -43,7 +44,7 @@ item_of bits i = record { ip = own_address i; len = plain_length bits i; instr =
 
 -- an instruction more, with its label
 abbrev pub with_item : RoutineState → Instr → Option ℕ → RoutineState
-with_item s i aim = record s { items = s.items ++ item_of s.bits i ∷ []; aims = s.aims ++ aim ∷ [] }
+with_item s i aim = record s { items = s.items ++ item_of s.bits i ∷ []; aims = s.aims ++ aim ∷ []; filled = s.filled ++ None ∷ [] }
 
 -- an instruction cannot go to its label: there is no such label, or the instruction has no target
 abbrev pub label_fault : List (Option ℕ) → Instr → Option ℕ → Option BuildError
@@ -73,3 +74,17 @@ push_fault bits count labels i aim =
 -- why none is added to a routine
 abbrev pub push_refusal : RoutineState → Instr → Option ℕ → Option BuildError
 push_refusal s i aim = push_fault s.bits (length s.items) s.labels i aim
+
+-- ---- data
+
+-- bytes of data more: each is an item, without a label
+abbrev pub with_bytes : RoutineState → List ℕ → RoutineState
+with_bytes s bytes = record s {
+  items = s.items ++ replicate (length bytes) (stand_in s.bits);
+  aims = s.aims ++ replicate (length bytes) None;
+  filled = s.filled ++ map Some bytes;
+}
+
+-- none are added where there would be more than 65,536 items
+abbrev pub bytes_refusal : RoutineState → List ℕ → Option BuildError
+bytes_refusal s bytes = if nat_le (length s.items + length bytes) 65536 then None else Some TooMany

@@ -1,4 +1,8 @@
 pub mod LawsBelow
+pub mod StandIn
 pub mod Routine
 pub mod Built
+pub mod Filling
 pub mod Finished
+pub mod Lines
+pub mod Text

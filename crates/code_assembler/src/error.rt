@@ -17,7 +17,7 @@ pub enum BuildError {
     /// There was not enough memory. No other cause holds.
     #[error("out of memory")]
     Memory,
-    /// There are 65,536 labels or instructions already.
+    /// There are 65,536 labels already, or there would be more than 65,536 instructions and bytes of data.
     #[error("more than 65,536 labels or instructions")]
     TooMany,
     /// The routine has no label of this number: it is one of another routine.
@@ -57,13 +57,13 @@ pub enum FinishError {
     /// There was not enough memory.
     #[error("out of memory")]
     Memory,
-    /// The label of this instruction, counted from 0, precedes no instruction.
+    /// The label of this instruction has no place, or follows the last of 65,536 items. Instructions and bytes of data are counted from 0.
     #[error("the label of instruction {at} has no instruction behind it")]
     Unplaced { at: usize },
-    /// The routine passes the address space of the mode: it ends at this address.
+    /// The routine passes the address space of the mode: it ends at this address, where a label at its end counts as one byte.
     #[error("end {end:#x} passes the address space")]
     Wraps { end: u128 },
-    /// The instruction of this number, from 0, does not reach its target, which is this address.
+    /// The instruction of this number does not reach its target, which is this address. Instructions and bytes of data are counted from 0.
     #[error("instruction {at} cannot reach {target:#x}")]
     TooFar { at: u64, target: u64 },
 }

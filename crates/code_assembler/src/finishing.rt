@@ -1,18 +1,24 @@
 //! The bytes of a routine.
 
-ghost use Rattle.std.specs.Prelude.{◌≡◌, ◌≤◌, ◌<◌, length, IfOk, None};
+ghost use Rattle.std.specs.Prelude.{◌≡◌, ◌≤◌, ◌<◌, ◌+◌, ◌++◌, [], ◌∷◌, length, IfOk, IsTrue, None};
+ghost use Rattle.std.specs.List.{list_any};
 ghost use Rattle.move_goals.specs.Items.{ArePlaced};
 ghost use Rattle.move_goals.specs.Plan as plan;
 ghost use Rattle.move_goals.specs.Plan.{branch_with, plan_with};
 ghost use Rattle.move_goals.specs.Items.{one_span};
 ghost use Rattle.code_assembler.specs.Routine as spec;
 ghost use Rattle.code_assembler.specs.Routine.{routine_goals};
-ghost use Rattle.code_assembler.specs.Finished.{IsFinished, finished_by};
+ghost use Rattle.code_assembler.specs.Routine.{with_byte, HasAdded};
+ghost use Rattle.code_assembler.specs.Finished as finished;
+ghost use Rattle.code_assembler.specs.Finished.{IsFinished, IsLaidAnswer, IsMade};
 
 use crate::assembled::{Assembled, place_of};
 use crate::error::FinishError;
+use crate::filling::{cut_end, put_data};
 use crate::laws_below::laws_below;
-use crate::routine::Assembler;
+use crate::lists::longer;
+use crate::routine::{Assembler, MOST};
+use crate::stand_in::stand_in;
 use block_encoder::{MovedBlocks, PlanError, move_planned};
 use branch_sizes::{Branch, Goal, Plan};
 use move_goals::Placed;
@@ -21,7 +27,40 @@ use move_goals::moved_targets::target_of;
 use std::alloc::{AllocError, Global};
 use x86_values::Bits;
 
-/// Whether an instruction goes to no label, or to one that precedes one of `count` instructions.
+/// What the added byte is where a label stands at the end: one of those between the code and its slots.
+const END: u8 = 0xCC;
+
+/// Whether a label follows `count` items.
+fn is_behind(count: usize, place: Option<u32>) -> bool
+    ensures { result ≡ spec.is_behind count place }
+{
+    match place {
+        None => false,
+        Some(k) => k as usize == count,
+    }
+}
+
+/// Whether some label follows `count` items.
+fn is_some_behind(labels: &[Option<u32>], count: usize) -> bool
+    ensures { result ≡ list_any (spec.is_behind count) labels.now }
+{
+    labels.iter().any(|place| is_behind(count, *place))
+}
+
+/// Whether some label stands at the end of `count` items, and there is room for one more.
+#[tactic(auto, using(std::proofs::lemmas::Bool::Decides::nat_tests))]
+fn has_end_label(labels: &[Option<u32>], count: usize) -> bool
+    ensures value { result ≡ spec.has_end_label labels.now count }
+    ensures few { IsTrue result → count < 65536 }
+{
+    if count < MOST {
+        is_some_behind(labels, count)
+    } else {
+        false
+    }
+}
+
+/// Whether an item goes to no label, or to one that precedes one of `count` items.
 fn is_aimed(labels: &[Option<u32>], count: usize, aim: Option<u32>) -> bool
     ensures { result ≡ spec.is_aimed labels.now count aim }
 {
@@ -34,14 +73,15 @@ fn is_aimed(labels: &[Option<u32>], count: usize, aim: Option<u32>) -> bool
     }
 }
 
-/// The first instruction whose label precedes none.
+/// The first item whose label precedes none of `count`.
 #[tactic(auto, unfolding(crate::specs::Routine::first_unplaced))]
-fn first_unplaced(labels: &[Option<u32>], aims: &[Option<u32>]) -> Option<usize>
-    ensures { result ≡ spec.first_unplaced labels.now aims.now (length aims.now) }
+fn first_unplaced(labels: &[Option<u32>], aims: &[Option<u32>], count: usize) -> Option<usize>
+    requires { length aims.now ≤ count }
+    ensures { result ≡ spec.first_unplaced labels.now aims.now count }
 {
     laws_below();
     'aims: for k in 0..aims.len() {
-        if !is_aimed(labels, aims.len(), aims[k]) {
+        if !is_aimed(labels, count, aims[k]) {
             return Some(k);
         }
     }
@@ -135,15 +175,44 @@ fn copy_of(alloc: Global, labels: &[Option<u32>]) -> Result<Vec<Option<u32>>, Al
     Ok(copy)
 }
 
-/// What a move of a routine gives, with the places of its labels.
+/// The bytes of moved items with their data. Callers added `count` of the items.
+fn finished_bytes(
+    alloc: Global,
+    moved: &MovedBlocks,
+    filled: &[Option<u8>],
+    base: u64,
+    count: usize,
+) -> Result<Vec<u8>, AllocError>
+    ensures { IfOk result (λ bytes. bytes.items ≡ finished.finished_bytes moved.now filled.now base count) }
+{
+    let mut bytes = Vec::with_capacity(alloc, moved.bytes().len())?;
+    bytes.extend_from_slice(moved.bytes())?;
+    put_data(&mut bytes, moved.starts(), base, filled);
+    cut_end(&mut bytes, count < filled.len(), moved.slots());
+    Ok(bytes)
+}
+
+/// What a move of a routine gives, with its data and the places of its labels.
 fn assembled_of(
+    alloc: Global,
     moved: Result<MovedBlocks, PlanError>,
+    filled: &[Option<u8>],
     labels: Vec<Option<u32>>,
+    base: u64,
+    count: usize,
 ) -> Result<Assembled, FinishError>
-    ensures { result ≡ finished_by moved labels.items }
+    ensures { IsMade moved filled.now labels.items base count result }
 {
     match moved {
-        Ok(moved) => Ok(Assembled { moved, labels }),
+        Ok(moved) => {
+            let bytes = finished_bytes(alloc, &moved, filled, base, count)?;
+            Ok(Assembled {
+                bytes,
+                moved,
+                count,
+                labels,
+            })
+        }
         Err(why) => Err(FinishError::from(why)),
     }
 }
@@ -153,25 +222,87 @@ impl Assembler {
     /// branch longer than that makes it. A branch on a counter that does not reach goes over a jump. In 64-bit mode a branch to an address that is out of
     /// reach goes through a slot of eight bytes behind the code.
     ///
-    /// The bytes decode at `base` to the instructions in order, each of which goes to its label or its own target. The routine can be finished again,
-    /// at another address too.
+    /// The bytes decode at `base` to the instructions in order, each of which goes to its label or its own target; data stands where it was added. The
+    /// routine can be finished again, at another address too.
     ///
-    /// Errors, in this order: `Unplaced` names the first instruction whose label precedes no instruction; `Wraps`: the end lies past the address space
-    /// of the mode; `TooFar` names the first instruction that does not reach its target. `Memory` can replace the last two.
+    /// A label at the end has the address behind the last item, which must be one of the address space. Only behind 65,536 items has it none.
+    ///
+    /// Errors, in this order, by the numbers of items from 0: `Unplaced` names the first instruction whose label has no place or no address; `Wraps`: the
+    /// end lies past the address space of the mode, where a label at the end counts as one byte more; `TooFar` names the first instruction that does not
+    /// reach its target. `Memory` can replace the last two.
     pub fn finish(&self, alloc: Global, base: u64) -> Result<Assembled, FinishError>
         ensures { IsFinished self.now base result }
     {
-        laws_below();
-        match first_unplaced(&self.labels, &self.aims) {
-            Some(at) => Err(FinishError::Unplaced { at }),
-            None => self.finish_placed(alloc, base),
+        let count = self.items.len();
+        if has_end_label(&self.labels, count) {
+            self.finish_ended(alloc, base)
+        } else {
+            self.finish_plain(alloc, base)
         }
     }
 
-    /// The bytes of a routine in which each label that is gone to precedes an instruction.
-    fn finish_placed(&self, alloc: Global, base: u64) -> Result<Assembled, FinishError>
-        requires { spec.first_unplaced self.now.labels self.now.aims (length self.now.items) ≡ None }
-        ensures { IsFinished self.now base result }
+    /// The bytes of a routine without a label at its end.
+    fn finish_plain(&self, alloc: Global, base: u64) -> Result<Assembled, FinishError>
+        ensures { IsLaidAnswer self.now base (length self.now.items) result }
+    {
+        laws_below();
+        match first_unplaced(&self.labels, &self.aims, self.items.len()) {
+            Some(at) => Err(FinishError::Unplaced { at }),
+            None => self.finish_placed(alloc, base, self.items.len()),
+        }
+    }
+
+    /// The bytes of a routine with a label at its end.
+    fn finish_ended(&self, alloc: Global, base: u64) -> Result<Assembled, FinishError>
+        requires { length self.now.items < 65536 }
+        ensures { IsLaidAnswer (with_byte self.now 0xCC) base (length self.now.items) result }
+    {
+        laws_below();
+        match first_unplaced(&self.labels, &self.aims, self.items.len() + 1) {
+            Some(at) => Err(FinishError::Unplaced { at }),
+            None => self.finish_longer(alloc, base),
+        }
+    }
+
+    /// The bytes of a routine with a label at its end, in which each label that is gone to has a place.
+    fn finish_longer(&self, alloc: Global, base: u64) -> Result<Assembled, FinishError>
+        requires few { length self.now.items < 65536 }
+        requires stand { let t = with_byte self.now 0xCC in spec.first_unplaced t.labels t.aims (length t.items) ≡ None }
+        ensures { IsLaidAnswer (with_byte self.now 0xCC) base (length self.now.items) result }
+    {
+        let whole = self.with_end(alloc)?;
+        let count = self.items.len();
+        whole.finish_placed(alloc, base, count)
+    }
+
+    /// The routine with a byte behind it.
+    fn with_end(&self, alloc: Global) -> Result<Assembler, AllocError>
+        requires { length self.now.items < 65536 }
+        ensures { IfOk result (λ whole. whole ≡ with_byte self.now 0xCC) }
+    {
+        let items = longer(alloc, &self.items, stand_in(self.bits))?;
+        let aims = longer(alloc, &self.aims, None)?;
+        let filled = longer(alloc, &self.filled, Some(END))?;
+        let labels = copy_of(alloc, &self.labels)?;
+        Ok(Assembler {
+            bits: self.bits,
+            items,
+            aims,
+            filled,
+            labels,
+        })
+    }
+
+    /// The bytes of a routine in which each label that is gone to precedes an item. At most its last item was added for labels at the end.
+    fn finish_placed(
+        &self,
+        alloc: Global,
+        base: u64,
+        count: usize,
+    ) -> Result<Assembled, FinishError>
+        requires stand { spec.first_unplaced self.now.labels self.now.aims (length self.now.items) ≡ None }
+        requires added { HasAdded self.now count }
+        ensures { IsLaidAnswer self.now base count result }
     {
         laws_below();
         let plan = plan_at(
@@ -184,6 +315,6 @@ impl Assembler {
         )?;
         let labels = copy_of(alloc, &self.labels)?;
         let moved = move_planned(alloc, self.bits, &self.items, &plan);
-        assembled_of(moved, labels)
+        assembled_of(alloc, moved, &self.filled, labels, base, count)
     }
 }

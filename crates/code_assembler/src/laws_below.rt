@@ -8,6 +8,8 @@ pub(crate) fn laws_below()
     ensures { AssemblerLawsBelow }
 {
     encoder::laws::encodings_are_plain();
+    branch_sizes::laws::totals_rise();
+    branch_sizes::move_layout::laws::blocks_end_behind_their_slots();
     move_goals::moved_targets::laws::spellings_are_moved();
     move_goals::laws::first_numbers_pass();
     move_goals::laws::plans_are_well_formed();

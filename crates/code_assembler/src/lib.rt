@@ -1,14 +1,23 @@
-//! Routines that are put together from instructions and labels: their bytes, with each branch at its label in the least layout.
+//! Routines that are put together from instructions, data and labels: their bytes, with each branch at its label in the least layout.
 #![tactic(auto)]
 
 mod assembled;
 mod error;
+mod filling;
 mod finishing;
+mod generated_codes;
 mod label;
 mod laws_below;
+mod line;
+mod lists;
 mod routine;
+mod stand_in;
+mod text;
+mod text_error;
 
 pub use assembled::Assembled;
 pub use error::{BuildError, FinishError};
 pub use label::Label;
 pub use routine::Assembler;
+pub use text::assemble_code;
+pub use text_error::{AssembleError, LineError};

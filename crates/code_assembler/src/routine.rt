@@ -1,17 +1,19 @@
 //! Routines as they are put together.
 
-ghost use Rattle.std.specs.Prelude.{◌≡◌, ◌⊎◌, ◌<◌, ◌++◌, [], ◌∷◌, IfOk, IfErr, IfSome, OnOk, OnErr, Err, Some, None, length, vec_len, vec_capacity};
+ghost use Rattle.std.specs.Prelude.{◌≡◌, ◌⊎◌, ◌<◌, ◌≤◌, ◌+◌, ◌++◌, [], ◌∷◌, IfOk, IfErr, IfSome, OnOk, OnErr, Err, Some, None, length, map, replicate, vec_len, vec_capacity};
 ghost use Rattle.encoder.specs.Encoding.{encoding};
 ghost use Rattle.move_goals.specs.Items.{IsPlaced};
 ghost use Rattle.code_assembler.specs.declared.error.BuildError.TheVariants.{Memory};
 ghost use Rattle.code_assembler.specs.Routine.{no_lines};
 ghost use Rattle.code_assembler.specs.Built as spec;
-ghost use Rattle.code_assembler.specs.Built.{with_label, with_place, with_item, label_refusal, place_refusal, push_refusal};
+ghost use Rattle.code_assembler.specs.Built.{with_label, with_place, with_item, with_bytes, label_refusal, place_refusal, push_refusal, bytes_refusal};
 
 use crate::assembled::place_of;
 use crate::error::BuildError;
 use crate::label::Label;
 use crate::laws_below::laws_below;
+use crate::lists::{append, append_bytes, fill};
+use crate::stand_in::stand_in;
 use encoder::{NoSpelling, encode};
 use move_goals::Placed;
 use move_goals::moved_targets::{plain_length, target_of};
@@ -19,10 +21,10 @@ use std::alloc::{AllocError, Global};
 use std::marker::Model;
 use x86_values::{Bits, Instr};
 
-/// How many labels, and how many instructions, a routine has at most.
-const MOST: usize = 65_536;
+/// How many labels, and how many items, a routine has at most.
+pub(crate) const MOST: usize = 65_536;
 
-/// A routine: instructions and labels, in the order in which they are added.
+/// A routine: instructions, bytes of data and labels, in the order in which they are added. Each instruction and each byte of data is an item.
 ///
 /// ```
 /// // A loop that adds the numbers from ECX down to 1.
@@ -43,6 +45,7 @@ pub struct Assembler {
     pub(crate) bits: Bits,
     pub(crate) items: Vec<Placed>,
     pub(crate) aims: Vec<Option<u32>>,
+    pub(crate) filled: Vec<Option<u8>>,
     pub(crate) labels: Vec<Option<u32>>,
 }
 
@@ -51,20 +54,9 @@ impl Model for Assembler {
 
     ghost Value = { RoutineState };
 
-    ghost view = { λ a. record { bits = a.bits; items = a.items.items; aims = a.aims.items; labels = a.labels.items } };
+    ghost view = { λ a. record { bits = a.bits; items = a.items.items; aims = a.aims.items; filled = a.filled.items; labels = a.labels.items } };
 
-    ghost invariant = { λ a. IsRoutine (record { bits = a.bits; items = a.items.items; aims = a.aims.items; labels = a.labels.items }) };
-}
-
-/// Appends to a vector that has room.
-fn append<T: Drop>(list: &mut Vec<T>, value: T)
-    requires { vec_len list.old < vec_capacity list.old }
-    ensures { list.new.items ≡ list.old.items ++ value ∷ [] }
-{
-    match list.push(value) {
-        Ok(()) => {}
-        Err(_) => {}
-    }
+    ghost invariant = { λ a. IsRoutine (record { bits = a.bits; items = a.items.items; aims = a.aims.items; filled = a.filled.items; labels = a.labels.items }) };
 }
 
 /// The instruction as one that stands at its own target, or why it has no encoding there.
@@ -140,6 +132,7 @@ impl Assembler {
             bits,
             items: Vec::new(alloc),
             aims: Vec::new(alloc),
+            filled: Vec::new(alloc),
             labels: Vec::new(alloc),
         }
     }
@@ -151,7 +144,7 @@ impl Assembler {
         self.bits
     }
 
-    /// Returns how many instructions there are.
+    /// Returns how many items there are: instructions and bytes of data.
     pub fn len(&self) -> usize
         ensures { result ≡ length self.now.items }
     {
@@ -179,7 +172,7 @@ impl Assembler {
         })
     }
 
-    /// Places a label before the next instruction that is added.
+    /// Places a label before the next instruction or byte that is added; if none is, the label stands at the end.
     ///
     /// Errors: `Unknown` if the routine has no such label; `PlacedTwice` if the label has a place. Nothing changes then.
     pub fn place(&mut self, label: Label) -> Result<(), BuildError>
@@ -212,14 +205,16 @@ impl Assembler {
         };
         self.items.reserve(1)?;
         self.aims.reserve(1)?;
+        self.filled.reserve(1)?;
         append(&mut self.items, item);
         append(&mut self.aims, aim);
+        append(&mut self.filled, None);
         Ok(())
     }
 
     /// Adds an instruction. If it is a near branch, or has an operand at RIP or EIP, it goes to that address, wherever the routine lies.
     ///
-    /// Errors, in this order: `TooMany` if there are 65,536 instructions; `NotEncoded` if it has no encoding in the mode, even at its own target;
+    /// Errors, in this order: `TooMany` if there are 65,536 items; `NotEncoded` if it has no encoding in the mode, even at its own target;
     /// `Memory`. Nothing changes then.
     pub fn push(&mut self, instr: &Instr) -> Result<(), BuildError>
         ensures state { OnOk result (self.new ≡ with_item self.old instr.now None) }
@@ -233,7 +228,7 @@ impl Assembler {
     /// Adds an instruction that goes to a label: a near branch, whose own target is of no account, or an instruction with an operand at RIP or EIP, which
     /// then has the address of the label. The label may be placed later.
     ///
-    /// Errors, in this order: `TooMany` if there are 65,536 instructions; `Unknown` if the routine has no such label; `NoTarget` if the instruction is no
+    /// Errors, in this order: `TooMany` if there are 65,536 items; `Unknown` if the routine has no such label; `NoTarget` if the instruction is no
     /// such one; `NotEncoded` if it has no encoding in the mode, even at its own target; `Memory`. Nothing changes then.
     pub fn push_to(&mut self, instr: &Instr, label: Label) -> Result<(), BuildError>
         ensures state { OnOk result (self.new ≡ with_item self.old instr.now (Some label.number)) }
@@ -242,5 +237,28 @@ impl Assembler {
         ensures unchanged { OnErr result (self.new ≡ self.old) }
     {
         self.push_aimed(instr, Some(label.number))
+    }
+
+    /// Adds bytes of data. A label that is placed before has the address of the first of them.
+    ///
+    /// Errors: `TooMany` if there would be more than 65,536 items, each byte counted as one; `Memory`. Nothing changes then.
+    pub fn bytes(&mut self, bytes: &[u8]) -> Result<(), BuildError>
+        ensures state { OnOk result (self.new ≡ with_bytes self.old bytes.now) }
+        ensures refused { IfSome (bytes_refusal self.old bytes.now) (λ why. result ≡ Err why) }
+        ensures cause { IfErr result (λ why. (bytes_refusal self.old bytes.now ≡ Some why) ⊎ (why ≡ Memory)) }
+        ensures unchanged { OnErr result (self.new ≡ self.old) }
+    {
+        let count = bytes.len();
+        if count > MOST || self.items.len() > MOST - count {
+            return Err(BuildError::TooMany);
+        }
+        let item = stand_in(self.bits);
+        self.items.reserve(count)?;
+        self.aims.reserve(count)?;
+        self.filled.reserve(count)?;
+        fill(&mut self.items, count, item);
+        fill(&mut self.aims, count, None);
+        append_bytes(&mut self.filled, bytes);
+        Ok(())
     }
 }

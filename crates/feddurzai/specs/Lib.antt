@@ -29,6 +29,12 @@ pub use Rattle.code_assembler.specs.Finished as FinishedRoutines
 pub use Rattle.intel_text.specs.Text as IntelText
 pub use Rattle.att_text.specs.Text as AttText
 pub use Rattle.masm_text.specs.Text as MasmText
+pub use Rattle.text_pieces.specs.Tokens as PlacedPieces
+pub use Rattle.text_pieces.specs.Pieces as TextPieces
+pub use Rattle.text_options.specs.Changed as ChangedText
+pub use Rattle.text_options.specs.Answers as SymbolAnswers
+pub use Rattle.text_options.specs.Defaults as DefaultOptions
+pub use Rattle.text_options.specs.Kept as KeptBytes
 -- what an instruction does
 pub use Rattle.operand_info.specs.ByCode
 pub use Rattle.operand_info.specs.Operands
@@ -88,7 +94,9 @@ pub use Rattle.detour.specs.Writes as PatchWrites
 pub use Rattle.detour.specs.HookSlots.State as HookState
 pub use Rattle.detour.specs.HookSlots.Opening as HookOpening
 pub use Rattle.detour.specs.HookSlots.Patches as HookPatches
+pub use Rattle.detour.specs.HookSlots.Layers as HookLayers
 pub use Rattle.detour.specs.HookSlots.Installing as HookInstalls
+pub use Rattle.detour.specs.HookSlots.Undoing as HookUndoing
 pub use Rattle.detour.specs.HookSlots.Removing as HookRemovals
 pub use Rattle.detour.specs.HookSlots.Holding as HookHolding
 pub use Rattle.detour.specs.HookSlots.Running as HookCommands

@@ -3,6 +3,7 @@
 //! Each module re-exports the calls of one subject. Their contracts are stated and proved in the crates that define them.
 #![tactic(auto)]
 
+pub mod codes;
 mod columns;
 mod intel;
 mod reached;
@@ -19,7 +20,9 @@ pub mod values {
 /// Decoding: whole code, single instructions, consecutive items, and the parts of an instruction. `laws` states that no bytes have two spellings, and
 /// `reading_laws` that they have one reading.
 pub mod decoding {
-    pub use code_items::{CodeItem, CodeItems, CodeIter, ReadError, read_items};
+    pub use code_items::{
+        AnyItem, CodeItem, CodeItems, CodeIter, ReadError, UnlistedItem, read_any_items, read_items,
+    };
     pub use decoder::{
         DecodeError, Decoder, Item, Items, decode, decode_counted, decode_in, laws, reading_laws,
     };
@@ -55,19 +58,30 @@ pub mod encoding {
 /// Assembling: the instruction that an Intel text stands for, and its bytes; and routines of instructions and labels. `Assembler` puts one together, and
 /// `finish` gives its bytes in the least layout.
 pub mod assembling {
-    pub use code_assembler::{Assembled, Assembler, BuildError, FinishError, Label};
+    pub use code_assembler::{
+        AssembleError, Assembled, Assembler, BuildError, FinishError, Label, LineError,
+        assemble_code,
+    };
     pub use intel_reader::{TextError, assemble, laws, read_intel};
 }
 
-/// The text of instructions and registers in three styles. `ascii_str` makes a `str` of it.
+/// The text of instructions and registers in three styles, its pieces, and the text by options and with symbols, whose laws are `option_laws`. `ascii_str`
+/// makes a `str` of a text.
 pub mod format {
     pub use crate::intel::Intel;
     pub use att_text::{print as print_att, print_to as print_att_to};
     pub use intel_text::{print as print_intel, print_to as print_intel_to};
     pub use masm_text::{print as print_masm, print_to as print_masm_to};
+    pub use text_options::options::{
+        Commas, Digits, Immediates, Letters, Options, RipOperands, SizeWords, SymbolPlace,
+    };
+    pub use text_options::symbols::{NoSymbols, Symbol, Symbols};
+    pub use text_options::{laws as option_laws, text_with};
     pub use text_parts::registers::{register_text, segment_name};
     pub use text_parts::style::Style;
     pub use text_parts::text::{Text, ascii_str};
+    pub use text_pieces::piece::{Kind, Number, PIECES, Piece, Pieces, Role};
+    pub use text_pieces::pieces;
 }
 
 /// What an instruction does: its flow, the access of its operands, its registers, memory and flags, implied ones too, its targets and features. What ends
@@ -102,8 +116,9 @@ pub mod rows {
     pub use text_rows::row_lines::{laws as notation_laws, notation_of, row_line};
 }
 
-/// Moving code to other addresses. `move_code` takes bytes, `move_items` decoded instructions, and the other calls instructions that some bytes
-/// spell. The plan of branches and its least layout are exported too; a `Branch` has its choices in an `ArrayVec`.
+/// Moving code to other addresses. `move_code` takes bytes, `move_code_unlisted` also those of instructions that the opcode table leaves out, `move_items`
+/// decoded instructions, and the other calls instructions that some bytes spell. The plan of branches and its least layout are exported too; a `Branch`
+/// has its choices in an `ArrayVec`.
 pub mod moving {
     pub use arrayvec::ArrayVec;
     pub use block_encoder::{
@@ -114,7 +129,9 @@ pub mod moving {
         Branch, Choice, Goal, LayoutError, Plan, Reach, Sums, laws as layout_laws, least_layout,
         places,
     };
-    pub use code_items::{MoveCodeError, MovedCode, move_code, move_items};
+    pub use code_items::{
+        MoveCodeError, MovedAnyCode, MovedCode, any_laws, move_code, move_code_unlisted, move_items,
+    };
 }
 
 /// Places for code in a fixed range of addresses.
@@ -170,7 +187,7 @@ pub mod flow {
 /// in which bytes are written over code that other processors may run.
 pub mod hooks {
     pub use detour::hook_slots::{
-        Hook, HookCommand, HookReply, Hooks, InstallError, MakeError, NotTaken, laws, replay,
+        Hook, HookCommand, HookReply, Hooks, InstallError, MakeError, RemoveError, laws, replay,
     };
     pub use detour::lengths::{MAX_TRAMPOLINE, detour_len, trampolines_are_short};
     pub use detour::writes::{Write, writes_of};

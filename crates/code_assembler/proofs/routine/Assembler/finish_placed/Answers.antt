@@ -6,19 +6,26 @@ use Rattle.move_goals.specs.Items.{one_span}
 use Rattle.move_goals.specs.Plan.{plan_with}
 use Rattle.block_encoder.specs.ByPlan.{IsPlanAnswer}
 use Rattle.block_encoder.specs.Planned.{as_moving}
-use Rattle.code_assembler.specs.Routine.{RoutineState, IsRoutine, first_unplaced, routine_goals, routine_plan}
-use Rattle.code_assembler.specs.Finished.{finished_by, IsFinished}
+use Rattle.code_assembler.specs.Routine.{RoutineState, IsRoutine, HasAdded, first_unplaced, routine_goals, routine_plan}
+use Rattle.code_assembler.specs.Finished.{IsMade, IsLaidAnswer}
 use Rattle.code_assembler.proofs.AtLabels.{finished}
 use Rattle.code_assembler.proofs.routine.Assembler.finish_placed.Goals as goal
 
 pub returns : goal.returns
 unfolding routine_plan
 returns c =
-    let s : RoutineState = record { bits = c.self.inside.bits; items = c.self.inside.items.items; aims = c.self.inside.aims.items; labels = c.self.inside.labels.items } in
+    let s : RoutineState = record {
+      bits = c.self.inside.bits;
+      items = c.self.inside.items.items;
+      aims = c.self.inside.aims.items;
+      filled = c.self.inside.filled.items;
+      labels = c.self.inside.labels.items;
+    } in
     let same : c.args.self.now ≡ s = sym c.self.view_is in
     let is : IsRoutine s = c.self.invariant in
     let none : first_unplaced s.labels s.aims (length s.items) ≡ None =
-    subst (λ (t : RoutineState). first_unplaced t.labels t.aims (length t.items) ≡ None) same c.requires in
+    subst (λ (t : RoutineState). first_unplaced t.labels t.aims (length t.items) ≡ None) same c.requires.stand in
+    let added : HasAdded s c.args.count = subst (λ (t : RoutineState). HasAdded t c.args.count) same c.requires.added in
     let items : c.deref-5.result.now ≡ s.items = c.deref-5.ensures.value in
     let plan =
     c.in_ok-plan.ensures
@@ -29,6 +36,9 @@ returns c =
     subst (λ (p : BlockPlan). IsPlanAnswer s.bits s.items p (as_moving c.move_planned-moved.result)) plan
     (subst (λ (xs : List Placed). IsPlanAnswer s.bits xs c.in_ok-plan.plan (as_moving c.move_planned-moved.result)) items c.move_planned-moved.ensures) in
     let labels : c.in_ok-labels.labels.items ≡ s.labels = c.in_ok-labels.ensures ∙ c.deref-4.ensures.value in
-    subst (λ (t : RoutineState). IsFinished t c.args.base c.assembled_of.result) (sym same)
-    (subst (λ r. IsFinished s c.args.base r) (sym (c.assembled_of.ensures ∙ ap (finished_by c.move_planned-moved.result) labels))
-    (finished c.laws_below.ensures s c.args.base is none c.move_planned-moved.result moved))
+    let made : IsMade c.move_planned-moved.result s.filled s.labels c.args.base c.args.count c.assembled_of.result =
+    subst (λ (ls : List (Option ℕ)). IsMade c.move_planned-moved.result s.filled ls c.args.base c.args.count c.assembled_of.result) labels
+    (subst (λ (fs : List (Option ℕ)). IsMade c.move_planned-moved.result fs c.in_ok-labels.labels.items c.args.base c.args.count c.assembled_of.result)
+    c.deref-6.ensures.value c.assembled_of.ensures) in
+    subst (λ (t : RoutineState). IsLaidAnswer t c.args.base c.args.count c.assembled_of.result) (sym same)
+    (finished c.laws_below.ensures s c.args.base c.args.count is added none c.move_planned-moved.result moved c.assembled_of.result made)
