@@ -1,4 +1,6 @@
 pub mod Spaced
 pub mod Lists
 pub mod Patches
+pub mod Layers
+pub mod Undone
 pub mod Kept

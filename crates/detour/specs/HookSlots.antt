@@ -1,7 +1,10 @@
 pub mod State
 pub mod Opening
 pub mod Patches
+pub mod Layers
+pub mod LastHooks
 pub mod Installing
+pub mod Undoing
 pub mod Removing
 pub mod Running
 pub mod Holding

@@ -4,12 +4,12 @@ mod commands;
 mod hooking;
 pub mod laws;
 mod laws_below;
+mod layers;
 mod making;
 mod patches;
 mod refusals;
 
-pub use code_region::NotTaken;
 pub use commands::{HookCommand, HookReply, replay};
 pub use hooking::Hooks;
 pub use making::Hook;
-pub use refusals::{InstallError, MakeError};
+pub use refusals::{InstallError, MakeError, RemoveError};

@@ -1,6 +1,6 @@
 -- Hooks as they are made and removed, and what holds of them then.
-use Rattle.std.proofs.Common.{◌≡◌, ℕ, ◌-◌, ◌%◌, ◌/◌, ◌≤◌, ◌<◌, inl, inr, List, [], ◌∷◌, ◌++◌, length, replicate, arith, ap, refl, subst, sym, ◌∙◌, nat_lt, nat_eq, Option, None, Result, Ok, Err}
-use Rattle.std.specs.Prelude.{IsTrue}
+use Rattle.std.proofs.Common.{◌≡◌, ℕ, ◌-◌, ◌%◌, ◌/◌, ◌≤◌, ◌<◌, inl, inr, Bool, true, false, List, [], ◌∷◌, ◌++◌, length, replicate, arith, ap, refl, subst, sym, ◌∙◌, nat_lt, nat_eq, Option, None, Some, Result, Ok, Err}
+use Rattle.std.specs.Prelude.{IsTrue, All, AllPairs}
 use Rattle.std.proofs.Math.Nat.{div-mul-le_self}
 use Rattle.std.proofs.lemmas.Bool.{cases_Bool, eqb-true, eqb-false, ltb-true, ltb-false}
 use Rattle.x86_values.specs.declared.Bits.{Bits}
@@ -18,15 +18,19 @@ use Rattle.code_region.specs.LiveEntries.Facts.{LiveFacts}
 use Rattle.detour.specs.declared.start.StartTarget.{StartTarget}
 use Rattle.detour.specs.declared.hook_slots.making.Hook.{Hook}
 use Rattle.detour.specs.declared.hook_slots.patches.SlotRange.{SlotRange}
+use Rattle.detour.specs.declared.hook_slots.patches.PatchRule.{PatchRule}
 use Rattle.detour.specs.declared.hook_slots.refusals.InstallError.{InstallError}
 use Rattle.detour.specs.declared.hook_slots.refusals.InstallError.TheVariants.{Memory, Full, NoDetour, TooLong, InRange, Patched}
 use Rattle.detour.specs.HookSlots.State.{HooksState, range_of, hook_place, no_hooks, with_hook, hook_at}
 use Rattle.detour.specs.HookSlots.Opening.{make_refusal}
-use Rattle.detour.specs.HookSlots.Patches.{patch_refusal}
-use Rattle.detour.specs.HookSlots.Installing.{IsHookPlaced, place_refusal, install_place, hooks_after, IsInstalled}
-use Rattle.detour.specs.HookSlots.Removing.{remove_of, remove_answer, without_hook, after_removal}
+use Rattle.detour.specs.HookSlots.Patches.{patch_refusal, AreDisjoint}
+use Rattle.detour.specs.HookSlots.Installing.{IsHookPlaced, place_refusal, install_place, hooks_after, IsInstalledBy}
+use Rattle.detour.specs.declared.hook_slots.refusals.RemoveError.{RemoveError}
+use Rattle.detour.specs.declared.hook_slots.refusals.RemoveError.TheVariants.{NotTaken as NotTakenThere, Covered}
+use Rattle.detour.specs.HookSlots.Removing.{remove_of, remove_answer, without_hook, removed_as, after_removal}
+use Rattle.detour.specs.HookSlots.Layers.{hooks_of, cover_of, covered_by}
 use Rattle.detour.specs.declared.hook_slots.commands.HookCommand.{HookCommand}
-use Rattle.detour.specs.declared.hook_slots.commands.HookCommand.TheVariants.{Install, Remove}
+use Rattle.detour.specs.declared.hook_slots.commands.HookCommand.TheVariants.{Install, InstallOver, Remove}
 use Rattle.detour.specs.declared.hook_slots.commands.HookReply.{HookReply}
 use Rattle.detour.specs.HookSlots.Running.{IsHookRun}
 use Rattle.detour.specs.HookSlots.Holding.{HooksAreApart, AreDetours, HoldsHooks}
@@ -34,6 +38,7 @@ use Rattle.detour.specs.HookSlots.Keeping.{IsSlot, AreSpaced, IsHookBlock, AreHo
 use Rattle.detour.specs.HookSlots.LawsBelow.{HookLawsBelow}
 use Rattle.detour.proofs.HookSlots.Spaced.{rounded-slot, slots-with, slots-without, is-full, place-slot}
 use Rattle.detour.proofs.HookSlots.Patches.{patches-none, patches-with, patches-without}
+use Rattle.detour.proofs.HookSlots.Layers.{layers-none, layers-with, layers-without}
 
 -- a number that is not another, and not above it
 below : (n m : ℕ) → (n ≡ m → ⊥) → n ≤ m → n < m
@@ -57,13 +62,13 @@ module _ (laws : HookLawsBelow) (slot : ℕ) (region : RegionState) (sound : IsS
       same ∙ (ap (λ (r : RegionState). after_release r place) is ∙ (laws.regions.restores region slot place sound e).blocks)
 
 -- no place is handed out where each slot has a hook
-pub full-placed : (range : SlotRange) (hooks : List Hook) (region : RegionState) (sound : IsSound region) (spaced : AreSpaced range.slot region)
-    (ip : ℕ) (code : List ℕ) (to : ℕ) (start : StartTarget) (why : PlaceError) → place_answer region range.slot ≡ Err why
+pub full-placed : (rule : PatchRule) (hooks : List Hook) (region : RegionState) (sound : IsSound region) (spaced : AreSpaced rule.range.slot region)
+    (ip : ℕ) (code : List ℕ) (to : ℕ) (start : StartTarget) (why : PlaceError) → place_answer region rule.range.slot ≡ Err why
     → (new : RegionState) → new ≡ region → (said : InstallError) → said ≡ place_refusal why
-    → IsHookPlaced range hooks region ip code to start (Err said) new
-full-placed range hooks region sound spaced ip code to start why e new same said is =
-    let full = is-full range.slot region spaced sound why e in
-    subst (λ (w : InstallError). IsHookPlaced range hooks region ip code to start (Err w) new) (sym (is ∙ ap place_refusal full.0)) ((full.1, refl), same)
+    → IsHookPlaced rule hooks region ip code to start (Err said) new
+full-placed rule hooks region sound spaced ip code to start why e new same said is =
+    let full = is-full rule.range.slot region spaced sound why e in
+    subst (λ (w : InstallError). IsHookPlaced rule hooks region ip code to start (Err w) new) (sym (is ∙ ap place_refusal full.0)) ((full.1, refl), same)
 
 -- ---- what is kept
 
@@ -77,8 +82,9 @@ module _ (laws : HookLawsBelow) (bits : Bits) (slot : ℕ) (region : RegionState
   kept-ascend = live.ascend
 
   -- an install
-  module _ (ip : ℕ) (code : List ℕ) (to : ℕ) (start : StartTarget) (hook : Hook) (new : RegionState)
-      (made : IsHookPlaced (record { bits = bits; base = region.base; size = region.size; slot = slot }) hooks region ip code to start (Ok hook) new) where
+  module _ (over : Bool) (ip : ℕ) (code : List ℕ) (to : ℕ) (start : StartTarget) (hook : Hook) (new : RegionState)
+      (made : IsHookPlaced (record { range = record { bits = bits; base = region.base; size = region.size; slot = slot }; over = over })
+      hooks region ip code to start (Ok hook) new) where
     -- there is room for it
     pub install-room : length hooks < room
     install-room = live.has-room slot hook.place made.0.0
@@ -133,13 +139,14 @@ module _ (laws : HookLawsBelow) (bits : Bits) (slot : ℕ) (region : RegionState
     pub install-kept : (more : ℕ) → room ≤ more → (after : List Hook) → after ≡ with_hook hook hooks → AreHooksKept bits slot new after more
     unfolding now
     install-kept more roomy after same =
-        let range : SlotRange = record { bits = bits; base = region.base; size = region.size; slot = slot } in
-        let clear = patches-with bits region hooks kept.patches slot hook
-        (subst (λ (n : ℕ). patch_refusal range hooks n (length hook.detour.patch) ≡ None) (sym made.0.1.0.0.ip_is) made.0.1.1) in
+        let rule : PatchRule = record { range = record { bits = bits; base = region.base; size = region.size; slot = slot }; over = over } in
+        let clear = patches-with bits region hooks kept.patches slot over hook
+        (subst (λ (n : ℕ). patch_refusal rule hooks n (length hook.detour.patch) ≡ None) (sym made.0.1.0.0.ip_is) made.0.1.1) in
         let on_now : AreHooksKept bits slot now (with_hook hook hooks) more = record {
           spaced = spaced_now;
           live = live_now more roomy;
           patches = record { outside = clear.outside; apart = clear.apart };
+          layers = layers-with hooks kept.layers hook (made.0.1.0.0.layer_is ∙ ap (λ (n : ℕ). hooks_of n hooks) (sym made.0.1.0.0.ip_is));
         } in
         subst (λ (r : RegionState). AreHooksKept bits slot r after more) (sym is_now)
         (subst (λ (xs : List Hook). AreHooksKept bits slot now xs more) (sym same) on_now)
@@ -159,10 +166,11 @@ module _ (laws : HookLawsBelow) (bits : Bits) (slot : ℕ) (region : RegionState
     unfolding now
     install-max = ap (λ (r : RegionState). r.max_blocks) is_now
 
-  -- a removal
-  pub remove-kept : (place : ℕ) → AreHooksKept bits slot (after_release region place) (without_hook place hooks) room
+  -- a removal of a hook over which no other lies
+  pub remove-kept : (place : ℕ) (hook : Hook) → hook_at place hooks ≡ Some hook → covered_by place hooks ≡ None
+      → AreHooksKept bits slot (after_release region place) (without_hook place hooks) room
   unfolding after_release
-  remove-kept place =
+  remove-kept place hook stands bare =
       let left = live.one-less place in
       let clear = patches-without bits region hooks kept.patches place in
       record {
@@ -174,6 +182,7 @@ module _ (laws : HookLawsBelow) (bits : Bits) (slot : ℕ) (region : RegionState
         };
         live = left;
         patches = record { outside = clear.outside; apart = clear.apart };
+        layers = layers-without hooks kept.layers place 0 hook kept-ascend stands (subst (λ (o : Option Hook). cover_of o hooks ≡ None) stands bare);
       }
 
   -- a hook stands at each place that can be released
@@ -181,36 +190,64 @@ module _ (laws : HookLawsBelow) (bits : Bits) (slot : ℕ) (region : RegionState
   remove-stands place e = live.stands place e
 
   -- after a removal the other hooks are kept
-  pub remove-made : (place : ℕ) (new : RegionState) → new ≡ after_release region place → (left : List Hook) → left ≡ without_hook place hooks
+  pub remove-made : (place : ℕ) (hook : Hook) → hook_at place hooks ≡ Some hook → covered_by place hooks ≡ None
+      → (new : RegionState) → new ≡ after_release region place → (left : List Hook) → left ≡ without_hook place hooks
       → (more : ℕ) → more ≡ room → AreHooksKept bits slot new left more
-  remove-made place new is left same more full =
+  remove-made place hook stands bare new is left same more full =
       subst (λ (r : RegionState). AreHooksKept bits slot r left more) (sym is)
       (subst (λ (xs : List Hook). AreHooksKept bits slot (after_release region place) xs more) (sym same)
-      (subst (λ (n : ℕ). AreHooksKept bits slot (after_release region place) (without_hook place hooks) n) (sym full) (remove-kept place)))
+      (subst (λ (n : ℕ). AreHooksKept bits slot (after_release region place) (without_hook place hooks) n) (sym full) (remove-kept place hook stands bare)))
 
-  remove-none : (place : ℕ) (why : NotTaken) → release_answer region place ≡ Err why → hook_at place hooks ≡ None
-  remove-none place why e = live.absent place why e
-
-  remove-same : (place : ℕ) (why : NotTaken) → release_answer region place ≡ Err why → without_hook place hooks ≡ hooks
-  remove-same place why e = live.unchanged place why e
-
-  -- a removal that is refused
-  module _ (place : ℕ) (why : NotTaken) (e : release_answer region place ≡ Err why) (now : HooksState)
-      (seen : record { bits = bits; slot = slot; region = region; hooks = hooks } ≡ now) where
-    -- a refused release is a refused removal
-    pub refused-answer : Err why ≡ remove_answer now place
-    refused-answer =
-        let P : HooksState → Type 0 = λ s. Err why ≡ remove_answer s place in
-        let Q : Option Hook → Type 0 = λ o. Err why ≡ remove_of o place in
-        let wrapped_why : NotTaken → Result Hook NotTaken = λ w. Err w in
-        subst P seen (subst Q (sym (remove-none place why e)) (ap wrapped_why (laws.fills.release-why region place why e)))
-
+  -- a removal, and what is seen before it
+  module _ (place : ℕ) (now : HooksState) (seen : record { bits = bits; slot = slot; region = region; hooks = hooks } ≡ now) where
     -- a refused removal changes nothing
-    pub refused-state : (new : RegionState) → new ≡ after_release region place → record { bits = bits; slot = slot; region = new; hooks = hooks } ≡ after_removal now place
-    refused-state new is =
+    left-same : (why : RemoveError) → Err why ≡ remove_answer now place → (new : RegionState) → new ≡ region
+        → record { bits = bits; slot = slot; region = new; hooks = hooks } ≡ after_removal now place
+    left-same why refused new same =
         let with_region : RegionState → HooksState = λ (r : RegionState). record { bits = bits; slot = slot; region = r; hooks = hooks } in
+        ap with_region same ∙ (seen ∙ ap (λ (r : Result Hook RemoveError). removed_as r now place) refused)
+
+    -- where no block is released, no hook stands
+    pub absent-answer : (why : NotTaken) → release_answer region place ≡ Err why → Err (NotTakenThere place) ≡ remove_answer now place
+    absent-answer why e =
+        let P : HooksState → Type 0 = λ s. Err (NotTakenThere place) ≡ remove_answer s place in
+        let Q : Option Hook → Type 0 = λ o. Err (NotTakenThere place) ≡ remove_of o (covered_by place hooks) place in
+        subst P seen (subst Q (sym (live.absent place why e)) refl)
+
+    -- and nothing changes
+    pub absent-state : (why : NotTaken) → release_answer region place ≡ Err why → (new : RegionState) → new ≡ region
+        → record { bits = bits; slot = slot; region = new; hooks = hooks } ≡ after_removal now place
+    absent-state why e new same = left-same (NotTakenThere place) (absent-answer why e) new same
+
+    -- where a later hook lies over it, the hook stays
+    pub covered-answer : (by : ℕ) → covered_by place hooks ≡ Some by → Err (Covered place by) ≡ remove_answer now place
+    covered-answer by e = subst (λ (s : HooksState). Err (Covered place by) ≡ remove_answer s place) seen (by_hook (hook_at place hooks) e)
+      where
+        by_hook : (o : Option Hook) → cover_of o hooks ≡ Some by → Err (Covered place by) ≡ remove_of o (cover_of o hooks) place
+        by_hook None f = absurd cc
+        by_hook (Some hook) f = ap (λ (b : Option ℕ). remove_of (Some hook) b place) (sym f)
+
+    -- and nothing changes
+    pub covered-state : (by : ℕ) → covered_by place hooks ≡ Some by → record { bits = bits; slot = slot; region = region; hooks = hooks } ≡ after_removal now place
+    covered-state by e = left-same (Covered place by) (covered-answer by e) region refl
+
+    -- else the hook that stands there is the answer
+    pub removed-answer : (hook : Hook) → hook_at place hooks ≡ Some hook → covered_by place hooks ≡ None → Ok hook ≡ remove_answer now place
+    removed-answer hook stands bare =
+        let P : HooksState → Type 0 = λ s. Ok hook ≡ remove_answer s place in
+        let Q : Option Hook → Type 0 = λ o. Ok hook ≡ remove_of o (covered_by place hooks) place in
+        subst P seen (subst Q (sym stands) (ap (λ (b : Option ℕ). remove_of (Some hook) b place) (sym bare)))
+
+    -- and the others are left
+    pub removed-state : (hook : Hook) → hook_at place hooks ≡ Some hook → covered_by place hooks ≡ None
+        → (new : RegionState) → new ≡ after_release region place → (left : List Hook) → left ≡ without_hook place hooks
+        → record { bits = bits; slot = slot; region = new; hooks = left } ≡ after_removal now place
+    removed-state hook stands bare new is left same =
+        let with_region : RegionState → HooksState = λ (r : RegionState). record { bits = bits; slot = slot; region = r; hooks = left } in
         let with_hooks : List Hook → HooksState = λ (xs : List Hook). record { bits = bits; slot = slot; region = after_release region place; hooks = xs } in
-        ap with_region is ∙ (ap with_hooks (sym (remove-same place why e)) ∙ ap (λ (s : HooksState). after_removal s place) seen)
+        ap with_region is ∙ (ap with_hooks same
+        ∙ (ap (λ (s : HooksState). removed_as (Ok hook) s place) seen
+        ∙ ap (λ (r : Result Hook RemoveError). removed_as r now place) (removed-answer hook stands bare)))
 
 -- ---- what is seen
 
@@ -222,6 +259,16 @@ module _ (laws : HookLawsBelow) (state : HooksState) (room : ℕ)
   -- the slots of the hooks stand apart
   pub kept-apart : HooksAreApart state
   kept-apart = record { slots = seen.apart; short = λ k d lt. (seen.blocks k d lt).1.short }
+
+  -- where no hook lies over another, no two patches have an address in common
+  pub kept-flat : All (λ (hook : Hook). hook.layer ≡ 0) state.hooks → AllPairs (AreDisjoint state.bits) state.hooks
+  kept-flat flat = λ i j d lt within.
+      let first = flat i d (omega (arith, lt, within)) in
+      let second = flat j d within in
+      kept.patches.apart i j d lt within (λ same. elim (kept.layers.ordered i j d lt within same) [
+        | inl under ↦ absurd (omega (arith, first, second, under))
+        | inr over ↦ absurd (omega (arith, first, second, over))
+      ])
 
   -- each hook is the detour of some code
   pub kept-detours : AreDetours state
@@ -282,6 +329,7 @@ kept-made laws bits base size slot none region is hooks no_hooks room roomy =
       };
       live = laws.entries.none (bits, slot) base size (size / slot) room roomy;
       patches = patches-none bits (empty_region base size (size / slot));
+      layers = layers-none;
     }))
 
 -- ---- in a range that is known
@@ -304,50 +352,54 @@ made-held laws range none region is hooks no_hooks room roomy = record {
 }
 
 module _ (laws : HookLawsBelow) (range : SlotRange) (region : RegionState) (hooks : List Hook) (room : ℕ) (held : AreHooksHeld range region hooks room) where
-  module _ (ip : ℕ) (code : List ℕ) (to : ℕ) (start : StartTarget) (hook : Hook) (new : RegionState)
-      (made : IsHookPlaced range hooks region ip code to start (Ok hook) new) where
-    in_region : IsHookPlaced (record { bits = range.bits; base = region.base; size = region.size; slot = range.slot }) hooks region ip code to start (Ok hook) new
+  module _ (over : Bool) (ip : ℕ) (code : List ℕ) (to : ℕ) (start : StartTarget) (hook : Hook) (new : RegionState)
+      (made : IsHookPlaced (record { range = range; over = over }) hooks region ip code to start (Ok hook) new) where
+    in_region : IsHookPlaced (record { range = record { bits = range.bits; base = region.base; size = region.size; slot = range.slot }; over = over })
+        hooks region ip code to start (Ok hook) new
     in_region =
-        subst (λ (r : SlotRange). IsHookPlaced r hooks region ip code to start (Ok hook) new) (held-range range region held.base held.size) made
+        subst (λ (r : SlotRange). IsHookPlaced (record { range = r; over = over }) hooks region ip code to start (Ok hook) new)
+        (held-range range region held.base held.size) made
 
     -- there is room for a hook that is made
     pub held-room : length hooks < room
-    held-room = install-room laws range.bits range.slot region hooks room held.kept ip code to start hook new in_region
+    held-room = install-room laws range.bits range.slot region hooks room held.kept over ip code to start hook new in_region
 
     -- and the hooks are held with it
     pub held-with : (more : ℕ) → room ≤ more → (after : List Hook) → after ≡ with_hook hook hooks → AreHooksHeld range new after more
     held-with more roomy after same = record {
-      base = install-base laws range.bits range.slot region hooks room held.kept ip code to start hook new in_region ∙ held.base;
-      size = install-size laws range.bits range.slot region hooks room held.kept ip code to start hook new in_region ∙ held.size;
-      kept = install-kept laws range.bits range.slot region hooks room held.kept ip code to start hook new in_region more roomy after same;
+      base = install-base laws range.bits range.slot region hooks room held.kept over ip code to start hook new in_region ∙ held.base;
+      size = install-size laws range.bits range.slot region hooks room held.kept over ip code to start hook new in_region ∙ held.size;
+      kept = install-kept laws range.bits range.slot region hooks room held.kept over ip code to start hook new in_region more roomy after same;
     }
 
   -- what an install leaves
-  pub held-installed : (ip : ℕ) (code : List ℕ) (to : ℕ) (start : StartTarget) (made : Result Hook InstallError) (new : RegionState)
-      → IsHookPlaced range hooks region ip code to start made new → (old : HooksState)
+  pub held-installed : (over : Bool) (ip : ℕ) (code : List ℕ) (to : ℕ) (start : StartTarget) (made : Result Hook InstallError) (new : RegionState)
+      → IsHookPlaced (record { range = range; over = over }) hooks region ip code to start made new → (old : HooksState)
       → record { bits = range.bits; slot = range.slot; region = region; hooks = hooks } ≡ old → (said : Result ℕ InstallError) → said ≡ install_place made
       → (after : List Hook) → after ≡ hooks_after made hooks
-      → IsInstalled old ip code to start said (record { bits = range.bits; slot = range.slot; region = new; hooks = after })
-  held-installed ip code to start made new placed old seen said answer after same =
+      → IsInstalledBy over old ip code to start said (record { bits = range.bits; slot = range.slot; region = new; hooks = after })
+  held-installed over ip code to start made new placed old seen said answer after same =
       let state : HooksState = record { bits = range.bits; slot = range.slot; region = new; hooks = after } in
-      subst (λ (s : HooksState). IsInstalled s ip code to start said state) seen (record {
+      subst (λ (s : HooksState). IsInstalledBy over s ip code to start said state) seen (record {
         bits = refl;
         slot = refl;
         made = made;
         answer = answer;
         region =
-            subst (λ (r : SlotRange). IsHookPlaced r hooks region ip code to start made new) (held-range range region held.base held.size) placed;
+            subst (λ (r : SlotRange). IsHookPlaced (record { range = r; over = over }) hooks region ip code to start made new)
+            (held-range range region held.base held.size) placed;
         hooks = same;
       })
 
   -- a removal
-  pub held-without : (place : ℕ) (new : RegionState) → new ≡ after_release region place → (left : List Hook) → left ≡ without_hook place hooks
+  pub held-without : (place : ℕ) (hook : Hook) → hook_at place hooks ≡ Some hook → covered_by place hooks ≡ None
+      → (new : RegionState) → new ≡ after_release region place → (left : List Hook) → left ≡ without_hook place hooks
       → (more : ℕ) → more ≡ room → AreHooksHeld range new left more
   unfolding after_release
-  held-without place new is left same more full = record {
+  held-without place hook stands bare new is left same more full = record {
     base = ap (λ (r : RegionState). r.base) is ∙ held.base;
     size = ap (λ (r : RegionState). r.size) is ∙ held.size;
-    kept = remove-made laws range.bits range.slot region hooks room held.kept place new is left same more full;
+    kept = remove-made laws range.bits range.slot region hooks room held.kept place hook stands bare new is left same more full;
   }
 
 -- ---- in runs
@@ -361,20 +413,26 @@ module _ (laws : HookLawsBelow) (old : HooksState) (kept : AreKeptIn old) where
   -- a removal keeps the hooks
   pub removed-kept : (place : ℕ) → AreKeptIn (after_removal old place)
   unfolding after_release
-  removed-kept place = remove-kept laws old.bits old.slot old.region old.hooks old.region.max_blocks kept place
+  removed-kept place = by_answer (hook_at place old.hooks) refl (covered_by place old.hooks) refl
+    where
+      by_answer : (o : Option Hook) → hook_at place old.hooks ≡ o → (by : Option ℕ) → covered_by place old.hooks ≡ by
+          → AreKeptIn (removed_as (remove_of o by place) old place)
+      by_answer None stands by cover = kept
+      by_answer (Some hook) stands None bare = remove-kept laws old.bits old.slot old.region old.hooks old.region.max_blocks kept place hook stands bare
+      by_answer (Some hook) stands (Some by) cover = kept
 
   unchanged : (region : RegionState) → region ≡ old.region → (hooks : List Hook) → hooks ≡ old.hooks → AreHooksKept old.bits old.slot region hooks region.max_blocks
   unchanged region is hooks same =
       subst (λ (r : RegionState). AreHooksKept old.bits old.slot r hooks r.max_blocks) (sym is)
       (subst (λ (xs : List Hook). AreHooksKept old.bits old.slot old.region xs old.region.max_blocks) (sym same) kept)
 
-  module _ (ip : ℕ) (code : List ℕ) (to : ℕ) (start : StartTarget) where
+  module _ (over : Bool) (ip : ℕ) (code : List ℕ) (to : ℕ) (start : StartTarget) where
     -- the region and the hooks after an install
-    after-kept : (made : Result Hook InstallError) (region : RegionState) → IsHookPlaced (range_of old) old.hooks old.region ip code to start made region
+    after-kept : (made : Result Hook InstallError) (region : RegionState) → IsHookPlaced (record { range = range_of old; over = over }) old.hooks old.region ip code to start made region
         → (hooks : List Hook) → hooks ≡ hooks_after made old.hooks → AreHooksKept old.bits old.slot region hooks region.max_blocks
     after-kept (Ok hook) region placed_there hooks same =
-        let max = install-max laws old.bits old.slot old.region old.hooks old.region.max_blocks kept ip code to start hook region placed_there in
-        install-kept laws old.bits old.slot old.region old.hooks old.region.max_blocks kept ip code to start hook region placed_there region.max_blocks
+        let max = install-max laws old.bits old.slot old.region old.hooks old.region.max_blocks kept over ip code to start hook region placed_there in
+        install-kept laws old.bits old.slot old.region old.hooks old.region.max_blocks kept over ip code to start hook region placed_there region.max_blocks
         (omega (arith, max)) hooks same
     after-kept (Err (Full max)) region left hooks same = unchanged region left.1 hooks same
     after-kept (Err (NoDetour why)) region left hooks same = unchanged region left.1 hooks same
@@ -384,7 +442,7 @@ module _ (laws : HookLawsBelow) (old : HooksState) (kept : AreKeptIn old) where
     after-kept (Err Memory) region left hooks same = unchanged region left hooks same
 
     -- an install keeps the hooks
-    pub installed-kept : (answer : Result ℕ InstallError) (new : HooksState) → IsInstalled old ip code to start answer new → AreKeptIn new
+    pub installed-kept : (answer : Result ℕ InstallError) (new : HooksState) → IsInstalledBy over old ip code to start answer new → AreKeptIn new
     installed-kept answer new done =
         let here = after-kept done.made new.region done.region new.hooks done.hooks in
         subst (λ (b : Bits). AreHooksKept b new.slot new.region new.hooks new.region.max_blocks) (sym done.bits)
@@ -396,6 +454,8 @@ run-kept laws [] [] old new kept run = subst AreKeptIn (sym run) kept
 run-kept laws [] (reply ∷ replies) old new kept run = absurd run
 run-kept laws (command ∷ commands) [] old new kept run = absurd run
 run-kept laws (Install ip code to start ∷ commands) (reply ∷ replies) old new kept run =
-    run-kept laws commands replies run.0 new (installed-kept laws old kept ip code.now to start run.1.0.0 run.0 run.1.0.1.1) run.1.1
+    run-kept laws commands replies run.0 new (installed-kept laws old kept false ip code.now to start run.1.0.0 run.0 run.1.0.1.1) run.1.1
+run-kept laws (InstallOver ip code to start ∷ commands) (reply ∷ replies) old new kept run =
+    run-kept laws commands replies run.0 new (installed-kept laws old kept true ip code.now to start run.1.0.0 run.0 run.1.0.1.1) run.1.1
 run-kept laws (Remove place ∷ commands) (reply ∷ replies) old new kept run =
     run-kept laws commands replies run.0 new (subst AreKeptIn (sym run.1.0.1) (removed-kept laws old kept place)) run.1.1

@@ -24,10 +24,12 @@ module _ {A : Type 0} (at : A → ℕ) where
   ]
 
 module _ {A : Type 0} (R : A → A → Type 0) where
-  pairs-head : (x : A) (xs : List A) → AllPairs R (x ∷ xs) → All (R x) xs
+  -- the first goes with each other
+  pub pairs-head : (x : A) (xs : List A) → AllPairs R (x ∷ xs) → All (R x) xs
   pairs-head x xs a = λ k d lt. a 0 (suc k) d (omega arith) (omega arith)
 
-  pairs-tail : (x : A) (xs : List A) → AllPairs R (x ∷ xs) → AllPairs R xs
+  -- and so do the others
+  pub pairs-tail : (x : A) (xs : List A) → AllPairs R (x ∷ xs) → AllPairs R xs
   pairs-tail x xs a = λ i j d lt within. a (suc i) (suc j) d (omega arith) (omega arith)
 
   -- of none

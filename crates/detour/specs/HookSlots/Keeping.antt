@@ -7,6 +7,7 @@ use Rattle.detour.specs.declared.hook_slots.making.Hook.{Hook}
 use Rattle.detour.specs.declared.hook_slots.patches.SlotRange.{SlotRange}
 use Rattle.detour.specs.HookSlots.State.{HooksState}
 use Rattle.detour.specs.HookSlots.Patches.{PatchesAreApart}
+use Rattle.detour.specs.HookSlots.Layers.{AreLayered}
 use Rattle.detour.specs.HookSlots.Holding.{HasDetour}
 
 -- a slot has some bytes, in units of 16
@@ -40,6 +41,7 @@ pub record AreHooksKept (bits : Bits) (slot : ℕ) (region : RegionState) (hooks
   pub spaced : AreSpaced slot region
   pub live : AreLive (IsHookBlock bits slot) region hooks room
   pub patches : PatchesAreApart bits region hooks
+  pub layers : AreLayered hooks
 
 -- hooks in a region whose range is known, with room for so many
 pub record AreHooksHeld (range : SlotRange) (region : RegionState) (hooks : List Hook) (room : ℕ) : Type 0 where

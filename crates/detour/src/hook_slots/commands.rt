@@ -6,8 +6,7 @@ ghost use Rattle.detour.specs.HookSlots.Running.{HookCommandFits, IsHookDone, Is
 use crate::StartTarget;
 use crate::hook_slots::hooking::Hooks;
 use crate::hook_slots::making::Hook;
-use crate::hook_slots::refusals::InstallError;
-use code_region::NotTaken;
+use crate::hook_slots::refusals::{InstallError, RemoveError};
 use code_region::live_entries::{Executor, run_commands};
 use std::alloc::Global;
 
@@ -16,6 +15,13 @@ use std::alloc::Global;
 pub enum HookCommand<'a> {
     /// Hook the function at `ip`, as [`Hooks::install`] does.
     Install {
+        ip: u64,
+        code: &'a [u8],
+        to: u64,
+        start: StartTarget,
+    },
+    /// Hook the function at `ip` over its live hooks, as [`Hooks::install_over`] does.
+    InstallOver {
         ip: u64,
         code: &'a [u8],
         to: u64,
@@ -38,6 +44,8 @@ pub enum HookReply {
     Removed,
     /// No trampoline of a live hook starts at `place`.
     NotTaken { place: u64 },
+    /// The hook at `by`, the last one of its function, lies over the one at `place`.
+    Covered { place: u64, by: u64 },
 }
 
 /// Returns the reply for the result of an install.
@@ -51,12 +59,13 @@ fn reply_to_install(answer: Result<u64, InstallError>) -> HookReply
 }
 
 /// Returns the reply for the result of a removal.
-fn reply_to_remove(answer: Result<Hook, NotTaken>) -> HookReply
+fn reply_to_remove(answer: Result<Hook, RemoveError>) -> HookReply
     ensures { result ≡ remove_reply answer }
 {
     match answer {
         Ok(_) => HookReply::Removed,
-        Err(NotTaken { place }) => HookReply::NotTaken { place },
+        Err(RemoveError::NotTaken { place }) => HookReply::NotTaken { place },
+        Err(RemoveError::Covered { place, by }) => HookReply::Covered { place, by },
     }
 }
 
@@ -73,6 +82,12 @@ impl<'a> Executor<HookCommand<'a>, HookReply> for Hooks {
                 to,
                 start,
             } => reply_to_install(self.install(alloc, ip, code, to, start)),
+            HookCommand::InstallOver {
+                ip,
+                code,
+                to,
+                start,
+            } => reply_to_install(self.install_over(alloc, ip, code, to, start)),
             HookCommand::Remove { place } => reply_to_remove(self.remove(place)),
         }
     }

@@ -5,17 +5,19 @@ ghost use Rattle.code_region.specs.State.{region_image};
 ghost use Rattle.detour.specs.HookSlots.State.{no_hooks, hook_at};
 ghost use Rattle.detour.specs.HookSlots.Opening.{make_refusal};
 ghost use Rattle.detour.specs.HookSlots.Patches.{PatchesAreApart};
-ghost use Rattle.detour.specs.HookSlots.Installing.{IsInstalled};
+ghost use Rattle.detour.specs.HookSlots.Layers.{AreLayered};
+ghost use Rattle.detour.specs.HookSlots.Installing.{IsInstalled, IsInstalledOver, IsInstalledBy};
 ghost use Rattle.detour.specs.HookSlots.Removing.{remove_answer, after_removal};
 ghost use Rattle.detour.specs.HookSlots.Holding.{HooksAreApart, AreDetours, HoldsHooks};
 
 use crate::StartTarget;
 use crate::hook_slots::laws_below::laws_below;
+use crate::hook_slots::layers::covered_by;
 use crate::hook_slots::making::{Hook, place_hook};
-use crate::hook_slots::patches::SlotRange;
-use crate::hook_slots::refusals::{InstallError, MakeError};
+use crate::hook_slots::patches::{PatchRule, SlotRange};
+use crate::hook_slots::refusals::{InstallError, MakeError, RemoveError};
+use code_region::Region;
 use code_region::live_entries::{insert_entry, remove_entry};
-use code_region::{NotTaken, Region};
 use move_goals::passes;
 use std::alloc::Global;
 use std::marker::Model;
@@ -150,10 +152,59 @@ impl Hooks {
         requires { length code.now ≤ 1048576 }
         ensures { IsInstalled self.old ip code.now to start result self.new }
     {
+        self.install_by(alloc, false, ip, code, to, start)
+    }
+
+    /// Hooks a function over its live hooks, if it has any. Returns the address of its trampoline, which identifies the hook.
+    ///
+    /// `code` is the function as its bytes are now, with the patches of its live hooks. The detour moves what they wrote: calls go to `to`, and the new
+    /// trampoline does what the last hook before it did. The last hook made is the first to be removed.
+    ///
+    /// A live hook is one of this function if its `ip` is the very same number. Its patch may lie under the new one; all else is as for
+    /// [`install`](Hooks::install), with the same errors in the same order. If no live hook is of this function, both do the same.
+    ///
+    /// ```
+    /// let first = hooks.install(rt.alloc(), ip, &FUNCTION, to, StartTarget::Moved)?;
+    /// let now = [0xE9, 0xFB, 0xEF, 0x0F, 0x00, 0xCC, 0x5D, 0xC3]; // its patch, and the rest
+    /// let last = hooks.install_over(rt.alloc(), ip, &now, 0x51_0000, StartTarget::Moved)?;
+    /// println!(rt; "{first:x} {last:x}")?; // 600000 600040
+    /// println!(rt; "{:?}", hooks.remove(first).err())?; // Some(Covered { place: 6291456, by: 6291520 })
+    /// ```
+    pub fn install_over(
+        &mut self,
+        alloc: Global,
+        ip: u64,
+        code: &[u8],
+        to: u64,
+        start: StartTarget,
+    ) -> Result<u64, InstallError>
+        requires { length code.now ≤ 1048576 }
+        ensures { IsInstalledOver self.old ip code.now to start result self.new }
+    {
+        self.install_by(alloc, true, ip, code, to, start)
+    }
+
+    /// Hooks a function, over its live hooks or not.
+    fn install_by(
+        &mut self,
+        alloc: Global,
+        over: bool,
+        ip: u64,
+        code: &[u8],
+        to: u64,
+        start: StartTarget,
+    ) -> Result<u64, InstallError>
+        requires { length code.now ≤ 1048576 }
+        ensures { IsInstalledBy over self.old ip code.now to start result self.new }
+    {
         laws_below();
+        let rule = PatchRule {
+            range: self.range,
+            over,
+        };
         let hook = place_hook(
             alloc,
-            self.range,
+            rule,
             &mut self.region,
             &self.live,
             ip,
@@ -166,26 +217,34 @@ impl Hooks {
         Ok(place)
     }
 
-    /// Removes the live hook whose trampoline starts at `place`, sets its bytes to CC, and returns the hook with the function's original bytes.
+    /// Removes the live hook whose trampoline starts at `place`, sets its bytes to CC, and returns the hook with the bytes that were under its patch.
     ///
-    /// Fails exactly if no live trampoline starts there, and then changes nothing.
-    pub fn remove(&mut self, place: u64) -> Result<Hook, NotTaken>
+    /// Errors; each leaves the hooks unchanged: no live trampoline starts there; later hooks of the same function lie over it, of which the last one,
+    /// the one to be removed first, is named.
+    pub fn remove(&mut self, place: u64) -> Result<Hook, RemoveError>
         ensures answer { result ≡ remove_answer self.old place }
         ensures state { self.new ≡ after_removal self.old place }
         ensures refused { OnErr result (self.new ≡ self.old) }
     {
         laws_below();
+        if let Some(by) = covered_by(&self.live, place) {
+            return Err(RemoveError::Covered { place, by });
+        }
         match self.region.release(place) {
             Ok(()) => Ok(remove_entry(&mut self.live, place)),
-            Err(why) => Err(why),
+            Err(_) => Err(RemoveError::NotTaken { place }),
         }
     }
 
-    /// Returns the live hooks, in the order of their trampolines' addresses. No two patches have an address in common, and none has one with the range.
+    /// Returns the live hooks, in the order of their trampolines' addresses.
+    ///
+    /// No patch has an address in common with the range of the trampolines, nor with the patch of another function's hook. Hooks of one function, those
+    /// with the same `ip`, lie over one another in the order of `layer`.
     pub fn live(&self) -> &[Hook]
         ensures hooks { result.now ≡ self.now.hooks }
         ensures apart { HooksAreApart self.now }
         ensures patches { PatchesAreApart self.now.bits self.now.region self.now.hooks }
+        ensures layers { AreLayered self.now.hooks }
         ensures detours { AreDetours self.now }
     {
         laws_below();

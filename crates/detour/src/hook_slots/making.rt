@@ -7,7 +7,8 @@ ghost use Rattle.detour.specs.HookSlots.Installing.{IsHookAnswer, IsHookPlaced, 
 ghost use Rattle.detour.specs.HookSlots.Keeping.{AreSpaced};
 
 use crate::hook_slots::laws_below::laws_below;
-use crate::hook_slots::patches::{SlotRange, patch_refusal};
+use crate::hook_slots::layers::hooks_of;
+use crate::hook_slots::patches::{PatchRule, patch_refusal};
 use crate::hook_slots::refusals::InstallError;
 use crate::{Detour, DetourError, StartTarget, detour};
 use code_region::live_entries::LiveEntry;
@@ -26,9 +27,11 @@ pub struct Hook {
     pub to: u64,
     /// What became of targets at the function's own start.
     pub start: StartTarget,
+    /// How many live hooks of the same function lie under it: 0 for the first one.
+    pub layer: u64,
     /// The patch, which goes over the function's first bytes, and the trampoline.
     pub detour: Detour,
-    /// The function's original bytes under the patch. Writing them back undoes it.
+    /// The bytes under the patch: the function's own, or those with the patches of the hooks under it. Writing them back undoes the patch.
     pub original: Vec<u8>,
 }
 
@@ -77,7 +80,7 @@ fn detour_refusal(why: DetourError) -> InstallError
 /// Returns the hook of a function with its trampoline at a place, if the trampoline fits a slot and the patch meets nothing.
 fn hook_at(
     alloc: Global,
-    range: SlotRange,
+    rule: PatchRule,
     live: &[Hook],
     ip: u64,
     code: &[u8],
@@ -86,20 +89,20 @@ fn hook_at(
     place: u64,
 ) -> Result<Hook, InstallError>
     requires { length code.now ≤ 1048576 }
-    ensures { IsHookAnswer range live.now ip code.now to start place result }
+    ensures { IsHookAnswer rule live.now ip code.now to start place result }
 {
-    let detour = match detour(alloc, range.bits, ip, code, to, place, start) {
+    let detour = match detour(alloc, rule.range.bits, ip, code, to, place, start) {
         Ok(detour) => detour,
         Err(why) => return Err(detour_refusal(why)),
     };
     let len = detour.trampoline().len() as u64;
-    if len > range.slot {
+    if len > rule.range.slot {
         return Err(InstallError::TooLong {
             len,
-            slot: range.slot,
+            slot: rule.range.slot,
         });
     }
-    if let Some(why) = patch_refusal(range, live, ip, detour.patch().len()) {
+    if let Some(why) = patch_refusal(rule, live, ip, detour.patch().len()) {
         return Err(why);
     }
     let Ok(original) = copy_of(alloc, &code[..detour.taken()]) else {
@@ -110,6 +113,7 @@ fn hook_at(
         ip,
         to,
         start,
+        layer: hooks_of(live, ip) as u64,
         detour,
         original,
     })
@@ -129,7 +133,7 @@ fn place_refusal(why: PlaceError) -> InstallError
 /// Hooks a function, with its trampoline in a slot of the region, which it fills.
 pub(crate) fn place_hook(
     alloc: Global,
-    range: SlotRange,
+    rule: PatchRule,
     region: &mut Region,
     live: &[Hook],
     ip: u64,
@@ -139,15 +143,15 @@ pub(crate) fn place_hook(
 ) -> Result<Hook, InstallError>
     requires size { length code.now ≤ 1048576 }
     requires sound { IsSound region.old }
-    requires slots { AreSpaced range.slot region.old }
-    ensures { IsHookPlaced range live.now region.old ip code.now to start result region.new }
+    requires slots { AreSpaced rule.range.slot region.old }
+    ensures { IsHookPlaced rule live.now region.old ip code.now to start result region.new }
 {
     laws_below();
-    let place = match region.place(range.slot) {
+    let place = match region.place(rule.range.slot) {
         Ok(place) => place,
         Err(why) => return Err(place_refusal(why)),
     };
-    match hook_at(alloc, range, live, ip, code, to, start, place) {
+    match hook_at(alloc, rule, live, ip, code, to, start, place) {
         Ok(hook) => {
             region.fill(place, hook.detour.trampoline());
             Ok(hook)

@@ -18,6 +18,15 @@ pub(crate) struct SlotRange {
     pub(crate) slot: u64,
 }
 
+/// What the patch of a new hook may meet.
+#[derive(Clone, Copy)]
+pub(crate) struct PatchRule {
+    /// The range of the trampolines, which it may not meet.
+    pub(crate) range: SlotRange,
+    /// Whether it may lie over the patches of live hooks of the very same function.
+    pub(crate) over: bool,
+}
+
 /// Returns whether `len` bytes at `ip` have an address in common with the patch of a hook.
 fn meets_patch(bits: Bits, ip: u64, len: usize, hook: &Hook) -> bool
     ensures { result ≡ spec.meets_patch bits ip len hook.now }
@@ -25,12 +34,19 @@ fn meets_patch(bits: Bits, ip: u64, len: usize, hook: &Hook) -> bool
     overlaps(bits, ip, len, hook.ip, hook.detour.patch().len())
 }
 
-/// Returns the place of the first live hook whose patch has an address in common with `len` bytes at `ip`.
-fn first_met(bits: Bits, ip: u64, len: usize, live: &[Hook]) -> Option<u64>
-    ensures { result ≡ option_map hook_place (find (spec.meets_patch bits ip len) live.now) }
+/// Returns whether a live hook is in the way of a patch of `len` bytes at `ip`.
+fn is_in_way(rule: PatchRule, ip: u64, len: usize, hook: &Hook) -> bool
+    ensures { result ≡ spec.is_in_way rule ip len hook.now }
+{
+    !(rule.over && hook.ip == ip) && meets_patch(rule.range.bits, ip, len, hook)
+}
+
+/// Returns the place of the first live hook that is in the way of a patch of `len` bytes at `ip`.
+fn first_in_way(rule: PatchRule, ip: u64, len: usize, live: &[Hook]) -> Option<u64>
+    ensures { result ≡ option_map hook_place (find (spec.is_in_way rule ip len) live.now) }
 {
     'hooks: for hook in live {
-        if meets_patch(bits, ip, len, hook) {
+        if is_in_way(rule, ip, len, hook) {
             return Some(hook.place);
         }
     }
@@ -39,17 +55,18 @@ fn first_met(bits: Bits, ip: u64, len: usize, live: &[Hook]) -> Option<u64>
 
 /// Returns the first cause against a patch of `len` bytes at `ip`.
 pub(crate) fn patch_refusal(
-    range: SlotRange,
+    rule: PatchRule,
     live: &[Hook],
     ip: u64,
     len: usize,
 ) -> Option<InstallError>
-    ensures { result ≡ spec.patch_refusal range live.now ip len }
+    ensures { result ≡ spec.patch_refusal rule live.now ip len }
 {
+    let range = rule.range;
     if overlaps(range.bits, ip, len, range.base, range.size as usize) {
         return Some(InstallError::InRange);
     }
-    match first_met(range.bits, ip, len, live) {
+    match first_in_way(rule, ip, len, live) {
         None => None,
         Some(place) => Some(InstallError::Patched { place }),
     }

@@ -1,4 +1,4 @@
-//! Why there are no hooks, and why a function is not hooked.
+//! Why there are no hooks, why a function is not hooked, and why a hook is not removed.
 
 use crate::DetourError;
 use thiserror::Error;
@@ -41,4 +41,15 @@ pub enum InstallError {
     /// The patch has an address in common with that of a live hook. The trampoline of the first such hook starts at `place`.
     #[error("the patch would overlap that of the hook at {place:#x}")]
     Patched { place: u64 },
+}
+
+/// Why a hook is not removed.
+#[derive(Clone, Copy, PartialEq, Eq, Debug, Error)]
+pub enum RemoveError {
+    /// No trampoline of a live hook starts at `place`.
+    #[error("no trampoline of a live hook starts at {place:#x}")]
+    NotTaken { place: u64 },
+    /// Later hooks of the same function lie over the one at `place`. The last of them, which is to be removed first, is at `by`.
+    #[error("the hook at {by:#x} lies over the one at {place:#x}")]
+    Covered { place: u64, by: u64 },
 }

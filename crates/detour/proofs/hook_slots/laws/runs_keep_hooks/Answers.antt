@@ -11,6 +11,8 @@ returns c =
           (kept.run-kept laws commands replies (no_hooks bits base size slot) state (kept.made-kept laws bits base size slot none) run);
       run-patches = λ bits base size slot none commands replies state run.
           (kept.run-kept laws commands replies (no_hooks bits base size slot) state (kept.made-kept laws bits base size slot none) run).patches;
+      run-layers = λ bits base size slot none commands replies state run.
+          (kept.run-kept laws commands replies (no_hooks bits base size slot) state (kept.made-kept laws bits base size slot none) run).layers;
       run-detours = λ bits base size slot none commands replies state run.
           kept.kept-detours laws state state.region.max_blocks
           (kept.run-kept laws commands replies (no_hooks bits base size slot) state (kept.made-kept laws bits base size slot none) run);
