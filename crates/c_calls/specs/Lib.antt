@@ -5,6 +5,8 @@ pub mod Flat
 pub mod Back
 pub mod Answers
 pub mod Lines
+pub mod Pieces
+pub mod Formatting
 pub mod Many
 pub mod Measuring
 pub mod Names

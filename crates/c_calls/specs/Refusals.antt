@@ -3,7 +3,7 @@ use Rattle.std.specs.Prelude.{ℕ, ◌+◌, ℤ, pos, neg_ℤ}
 use Rattle.plain_spelling.specs.declared.NoSpelling.{NoSpelling}
 use Rattle.plain_spelling.specs.declared.NoSpelling.TheVariants as cause
 use Rattle.c_calls.specs.declared.refusal.Refusal.{Refusal}
-use Rattle.c_calls.specs.declared.refusal.Refusal.TheVariants.{Mode, Syntax, Code, Instr, Form, Room, Invalid, TooShort, Name, Memory, TooLarge, TooMany, Wraps, TooFar, Text, Register, Jump, Start, Small, Ends, Entered, Block, Region, Empty, Full, NotLive, Unseen, Overlaps, Calls, Padding, Spelling}
+use Rattle.c_calls.specs.declared.refusal.Refusal.TheVariants.{Mode, Syntax, Code, Instr, Form, Room, Invalid, TooShort, Name, Memory, TooLarge, TooMany, Wraps, TooFar, Text, Register, Jump, Start, Small, Ends, Entered, Block, Region, Empty, Full, NotLive, Unseen, Overlaps, Calls, Padding, Options, Spelling}
 
 -- 256 times the number of a condition, 1 to 10
 abbrev pub condition_number : NoSpelling → ℕ
@@ -50,6 +50,7 @@ refusal_number Unseen = 28
 refusal_number Overlaps = 29
 refusal_number Calls = 30
 refusal_number Padding = 31
+refusal_number Options = 32
 refusal_number (Spelling why operand) = condition_number why + operand
 
 -- a refusal is told by its number below zero

@@ -388,3 +388,45 @@ pub struct FlatPadded {
     /// 1 after a refusal that is about the padding or the jump in it, else 0.
     pub padding: u64,
 }
+
+/// A piece of an instruction's text.
+#[derive(Clone, Copy)]
+#[repr(C)]
+pub struct FlatPiece {
+    /// The value of a number; 0 for anything else.
+    pub value: u64,
+    /// The offset of its first character in the text.
+    pub start: u8,
+    /// The offset after its last character.
+    pub end: u8,
+    /// Its kind: 0 to 7 for prefix, mnemonic, register, keyword, number, operator, punctuation and space.
+    pub kind: u8,
+    /// The operand that it belongs to, 0 to 3, or 255 for none.
+    pub operand: u8,
+    /// What a number is there for: 1 to 7 for immediate, displacement, scale, target, address, selector and offset; 0 for anything else.
+    pub role: u8,
+    /// How many bytes a number has; 0 for anything else.
+    pub width: u8,
+}
+
+/// How a text is written: a number of each choice, 0 for the printer's own text.
+#[derive(Clone, Copy)]
+#[repr(C)]
+pub struct FlatOptions {
+    /// Upper case: 0 none, 1 prefixes and names, 2 registers, 3 keywords, 4 all of these.
+    pub letters: u8,
+    /// Numbers: 0 as the style, 1 `0x2a`, 2 `2Ah`, 3 decimal.
+    pub digits: u8,
+    /// Immediates: 0 unsigned, 1 signed.
+    pub immediates: u8,
+    /// A comma: 0 with a space after it, 1 without.
+    pub commas: u8,
+    /// The size of memory: 0 always, 1 where no register shows it.
+    pub size_words: u8,
+    /// The column of the first operand.
+    pub operand_column: u8,
+    /// Operands at RIP: 0 with their address, 1 with the register and the distance.
+    pub rip_operands: u8,
+    /// A symbol: 0 behind the number, 1 in its place, 2 in a comment, 3 in a comment for memory.
+    pub symbol_place: u8,
+}

@@ -68,6 +68,8 @@ pub(crate) enum Refusal {
     Calls,
     /// The padding in front of a function has too few bytes, or other bytes.
     Padding,
+    /// A number of the options names no choice.
+    Options,
     /// The instruction has no plain spelling there: the condition that fails, and the operand that fails it, 0 for a condition of the whole instruction.
     Spelling { why: NoSpelling, operand: u8 },
 }
@@ -126,6 +128,7 @@ fn refusal_number(why: Refusal) -> u16
         Refusal::Overlaps => 29,
         Refusal::Calls => 30,
         Refusal::Padding => 31,
+        Refusal::Options => 32,
         Refusal::Spelling { why, operand } => condition_number(why) + u16::from(operand),
     }
 }

@@ -1,11 +1,13 @@
 //! The calls that users meet first, each with its result. The docstrings of the library show these lines as their examples.
 
 use bitflags::Flags;
-use feddurzai::assembling::{Assembler, assemble, read_intel};
+use feddurzai::assembling::{Assembler, assemble, assemble_code, read_intel};
 use feddurzai::decoding::{Decoder, Items, decode_in, read_items};
 use feddurzai::encoding::{encode, encoded_len};
 use feddurzai::flow::graph_of_code;
-use feddurzai::format::{Intel, Style, ascii_str, print_att};
+use feddurzai::format::{
+    Intel, NoSymbols, Options, RipOperands, Style, ascii_str, pieces, print_att, text_with,
+};
 use feddurzai::hooks::{
     HookRules, Hooks, StartRule, StartTarget, detour, detour_keeping_endbr, detour_len,
     detour_through_padding, detour_with, look, writes_of,
@@ -107,11 +109,64 @@ fn build_loop(rt: &HostRuntime) -> anyhow::Result<()> {
     Ok(())
 }
 
+/// Assembles a loop from its lines.
+fn assemble_lines(rt: &HostRuntime) -> anyhow::Result<()> {
+    let text = b"again: add eax, ecx\n dec ecx\n jne again ; until it is 0\n ret";
+    let made = assemble_code(rt.alloc(), Bits::B64, 0x40_1000, text)?;
+    println!(rt; "{}", hex::encode(rt.alloc(), made.bytes())?)?; // 01c8ffc975fac3
+    Ok(())
+}
+
+/// Puts a load from a table together.
+fn build_table(rt: &HostRuntime) -> anyhow::Result<()> {
+    // A load from a table that lies behind the code.
+    let mut routine = Assembler::new(rt.alloc(), Bits::B64);
+    let table = routine.label()?;
+    let load = read_intel(Bits::B64, 0, b"movzx eax, byte [rel 0x0]")?;
+    routine.push_to(&load, table)?;
+    routine.push(&read_intel(Bits::B64, 0, b"ret")?)?;
+    routine.place(table)?;
+    routine.bytes(b"\x2a\x2b")?;
+    let made = routine.finish(rt.alloc(), 0x40_1000)?;
+    println!(rt; "{}", hex::encode(rt.alloc(), made.bytes())?)?; // 0fb60501000000c32a2b
+    Ok(())
+}
+
 /// Prints an instruction in the AT&T style.
 fn print_one(rt: &HostRuntime) -> anyhow::Result<()> {
     let read = decode_in(Bits::B64, 0x40_1000, b"\xf0\xff\x44\xbe\x10")?;
     let text = print_att(Bits::B64, &read.instr);
     println!(rt; "{}", ascii_str(&text))?; // lock incl 0x10(%rsi,%rdi,4)
+    Ok(())
+}
+
+/// Shows where the pieces of a text stand.
+fn show_pieces(rt: &HostRuntime) -> anyhow::Result<()> {
+    let read = decode_in(Bits::B64, 0x40_1000, b"\xe8\xfb\x0f\x00\x00")?; // call 0x402000
+    for piece in pieces(Style::Intel, Bits::B64, &read.instr).iter() {
+        println!(rt; "{} {} {:?}", piece.start, piece.end, piece.kind)?; // 0 4 Mnemonic, then 4 5 Space, then the number
+    }
+    Ok(())
+}
+
+/// Prints an operand relative to RIP with its distance.
+fn show_distance(rt: &HostRuntime) -> anyhow::Result<()> {
+    let read = decode_in(Bits::B64, 0x40_1000, b"\x48\x8d\x3d\xbd\x2e\x00\x00")?; // lea rdi, [rel 0x403ec4]
+    let options = Options {
+        rip_operands: RipOperands::Distance,
+        ..Options::default()
+    };
+    let mut text = Vec::new(rt.alloc());
+    text_with(
+        &mut text,
+        Style::Intel,
+        &options,
+        Bits::B64,
+        &read.instr,
+        0x40_1007,
+        &NoSymbols,
+    )?;
+    println!(rt; "{}", from_utf8(&text)?)?; // lea rdi, [rip+0x2ebd]
     Ok(())
 }
 
@@ -321,6 +376,18 @@ fn keep_hook(rt: &HostRuntime) -> anyhow::Result<()> {
     Ok(())
 }
 
+/// Hooks a function twice.
+fn hook_twice(rt: &HostRuntime) -> anyhow::Result<()> {
+    let mut hooks = Hooks::make(rt.alloc(), Bits::B64, 0x60_0000, 4096, 64)?;
+    let (ip, to) = (0x40_1000, 0x50_0000);
+    let first = hooks.install(rt.alloc(), ip, &FUNCTION, to, StartTarget::Moved)?;
+    let now = [0xE9, 0xFB, 0xEF, 0x0F, 0x00, 0xCC, 0x5D, 0xC3]; // its patch, and the rest
+    let last = hooks.install_over(rt.alloc(), ip, &now, 0x51_0000, StartTarget::Moved)?;
+    println!(rt; "{first:x} {last:x}")?; // 600000 600040
+    println!(rt; "{:?}", hooks.remove(first).err())?; // Some(Covered { place: 6291456, by: 6291520 })
+    Ok(())
+}
+
 /// Writes a listing to a sink.
 fn list_function(rt: &HostRuntime) -> anyhow::Result<()> {
     let mut source = MemSource::new(&FUNCTION);
@@ -343,7 +410,11 @@ fn run_reading(rt: &HostRuntime) -> anyhow::Result<()> {
     encode_jump(rt)?;
     assemble_one(rt)?;
     build_loop(rt)?;
-    print_one(rt)
+    build_table(rt)?;
+    assemble_lines(rt)?;
+    print_one(rt)?;
+    show_pieces(rt)?;
+    show_distance(rt)
 }
 
 /// Runs the examples about effects and rows.
@@ -375,5 +446,6 @@ pub fn run(rt: &HostRuntime) -> anyhow::Result<()> {
     hook_through_padding(rt)?;
     run_writing(rt)?;
     keep_hook(rt)?;
+    hook_twice(rt)?;
     list_function(rt)
 }

@@ -3,6 +3,7 @@
 ghost use Rattle.std.specs.Prelude.{◌≤◌, length};
 ghost use Rattle.feddurzai.specs.Detours.{IsDetourAnswer};
 
+use feddurzai::codes::JNE_REL8;
 use feddurzai::decoding::{decode_in, read_items};
 use feddurzai::encoding::{NoSpelling, encode, encoded_len};
 use feddurzai::flow::{flow_graph_in, graph_of_code_from};
@@ -88,6 +89,7 @@ fn an_instruction_is_read_told_and_written(rt: HostRuntime) -> Result<(), Fail> 
     let instr = read(BRANCH)?;
     same(&rt, "the row", &instr.code, &JNE);
     same(&rt, "the row of the name", &code_of("jne", 2), &Some(JNE));
+    same(&rt, "the row of the constant", &JNE_REL8, &JNE);
     same(&rt, "the flow", &flow(BRANCH)?, &Flow::ConditionalBranch);
     is_shown(&rt, rt.alloc(), BRANCH, "jne 0x1012")?;
     is_written(&rt, &instr, BRANCH)?;

@@ -2,7 +2,7 @@
 
 use crate::detours::compare::{are_bytes, same};
 use feddurzai::hooks::{
-    DetourError, Hook, HookCommand, HookReply, Hooks, InstallError, MakeError, NotTaken,
+    DetourError, Hook, HookCommand, HookReply, Hooks, InstallError, MakeError, RemoveError,
     StartTarget, replay,
 };
 use feddurzai::values::Bits;
@@ -227,7 +227,7 @@ fn no_slot_is_free(
 }
 
 /// The address of a hook that is removed, how many bytes it has of its function, and how many its detour takes.
-fn removed(hooks: &mut Hooks, place: u64) -> Result<(u64, usize, usize), NotTaken> {
+fn removed(hooks: &mut Hooks, place: u64) -> Result<(u64, usize, usize), RemoveError> {
     let gone = hooks.remove(place)?;
     Ok((gone.ip, gone.original.len(), gone.detour.taken()))
 }
@@ -242,7 +242,7 @@ fn is_removed(rt: &impl Abort, alloc: Global, hooks: &mut Hooks, case: &Case) ->
     has_slots(rt, alloc, hooks, case.slot, &["", case.two.trampoline])?;
     same(rt, "live hooks", &hooks.live().len(), &1);
     let gone = removed(hooks, place);
-    same(rt, "no hook", &gone, &Err(NotTaken { place }));
+    same(rt, "no hook", &gone, &Err(RemoveError::NotTaken { place }));
     Ok(())
 }
 
@@ -437,6 +437,180 @@ fn patches_apart(rt: HostRuntime) -> Result<(), Fail> {
         let answer = fourth(rt.alloc(), &mut hooks, *ip)?;
         same(&rt, "the answer", &answer, want);
     }
+    Ok(())
+}
+
+/// Hooks a function over its live hooks.
+fn install_over(
+    hooks: &mut Hooks,
+    alloc: Global,
+    function: &Function,
+) -> Result<Result<u64, InstallError>, Fail> {
+    let code = hex::decode(alloc, function.code)?;
+    if code.len() > 64 {
+        return Err(Fail::new("the code of a case is short"));
+    }
+    Ok(hooks.install_over(alloc, function.ip, &code, function.to, StartTarget::Moved))
+}
+
+/// Hooks of one function over one another, each with the bytes of the function before it. From the second one on they move the jump of the one before:
+/// from 9010 to 5000, and from 9020 to 6000.
+const STACK: &[Hooked] = &[
+    Hooked {
+        function: NEAR,
+        place: 0x9000,
+        patch: "e9fb3f0000cccccc",
+        trampoline: "554889e54883ec20e9fb7fffff",
+    },
+    Hooked {
+        function: Function {
+            ip: 0x1000,
+            code: "e9fb3f0000ccccccc3",
+            to: 0x6000,
+        },
+        place: 0x9010,
+        patch: "e9fb4f0000",
+        trampoline: "e9ebbfffff",
+    },
+    Hooked {
+        function: Function {
+            ip: 0x1000,
+            code: "e9fb4f0000ccccccc3",
+            to: 0x7000,
+        },
+        place: 0x9020,
+        patch: "e9fb5f0000",
+        trampoline: "e9dbcfffff",
+    },
+];
+
+/// The hooks of the stack are made, each over those before.
+fn stacked(rt: &impl Abort, alloc: Global) -> Result<Hooks, Fail> {
+    let mut hooks = Hooks::make(alloc, Bits::B64, 0x9000, 64, 16)?;
+    for wanted in STACK {
+        let place = install_over(&mut hooks, alloc, &wanted.function)?;
+        same(rt, "the place", &place, &Ok(wanted.place));
+    }
+    Ok(hooks)
+}
+
+/// That the hooks of the stack are live, and how many lie under each.
+fn are_stacked(rt: &impl Abort, alloc: Global, hooks: &Hooks) -> Result<(), Fail> {
+    let trampolines = &[
+        STACK[0].trampoline,
+        STACK[1].trampoline,
+        STACK[2].trampoline,
+        "",
+    ];
+    has_slots(rt, alloc, hooks, 16, trampolines)?;
+    match hooks.live() {
+        [one, two, three] => {
+            is_hooked(rt, alloc, one, &STACK[0])?;
+            is_hooked(rt, alloc, two, &STACK[1])?;
+            is_hooked(rt, alloc, three, &STACK[2])?;
+            same(
+                rt,
+                "the layers",
+                &(one.layer, two.layer, three.layer),
+                &(0, 1, 2),
+            );
+            Ok(())
+        }
+        _ => Err(Fail::new("three hooks are live")),
+    }
+}
+
+/// Functions beside the stack, whose first patch is at 1000 to 1007, each with the reason for which it is not hooked over its live hooks.
+const REFUSED_OVER: &[(Function, InstallError)] = &[
+    (
+        Function { ip: 0xFF9, ..NEAR },
+        InstallError::Patched { place: 0x9000 },
+    ),
+    // the later patches end at 1004
+    (
+        Function { ip: 0x1005, ..NEAR },
+        InstallError::Patched { place: 0x9000 },
+    ),
+    (Function { ip: 0x903F, ..NEAR }, InstallError::InRange),
+];
+
+/// Removals in order, each with what it answers.
+const REMOVALS: &[(u64, Result<(), RemoveError>)] = &[
+    (
+        0x9000,
+        Err(RemoveError::Covered {
+            place: 0x9000,
+            by: 0x9020,
+        }),
+    ),
+    (
+        0x9010,
+        Err(RemoveError::Covered {
+            place: 0x9010,
+            by: 0x9020,
+        }),
+    ),
+    (0x9020, Ok(())),
+    (
+        0x9000,
+        Err(RemoveError::Covered {
+            place: 0x9000,
+            by: 0x9010,
+        }),
+    ),
+    (0x9010, Ok(())),
+    (0x9000, Ok(())),
+    (0x9000, Err(RemoveError::NotTaken { place: 0x9000 })),
+];
+
+/// What a removal answers.
+fn removal(hooks: &mut Hooks, place: u64) -> Result<(), RemoveError> {
+    hooks.remove(place)?;
+    Ok(())
+}
+
+#[test]
+fn hooks_over_hooks(rt: HostRuntime) -> Result<(), Fail> {
+    let mut hooks = stacked(&rt, rt.alloc())?;
+    are_stacked(&rt, rt.alloc(), &hooks)?;
+    for (function, refusal) in REFUSED_OVER {
+        let refused = install_over(&mut hooks, rt.alloc(), function)?;
+        same(&rt, "the refusal", &refused, &Err(*refusal));
+    }
+    let refused = install(&mut hooks, rt.alloc(), &STACK[2].function)?;
+    same(
+        &rt,
+        "the refusal",
+        &refused,
+        &Err(InstallError::Patched { place: 0x9000 }),
+    );
+    for (place, want) in REMOVALS {
+        same(&rt, "the removal", &removal(&mut hooks, *place), want);
+    }
+    has_slots(&rt, rt.alloc(), &hooks, 16, &["", "", "", ""])
+}
+
+/// A second patch over a function may not reach the patch of another one: push rbp; mov rbp, rsp; sub rsp, 20 with four bytes of 20, 11 bytes.
+const LONGER: Function = Function {
+    code: "554889e54881ec20000000c3",
+    ..NEAR
+};
+
+#[test]
+fn other_functions_kept_apart(rt: HostRuntime) -> Result<(), Fail> {
+    let mut hooks = Hooks::make(rt.alloc(), Bits::B64, 0x9000, 64, 16)?;
+    let one = install(&mut hooks, rt.alloc(), &NEAR)?;
+    same(&rt, "the place", &one, &Ok(0x9000));
+    let next = Function { ip: 0x1008, ..NEAR };
+    let two = install_over(&mut hooks, rt.alloc(), &next)?;
+    same(&rt, "the place", &two, &Ok(0x9010));
+    let refused = install_over(&mut hooks, rt.alloc(), &LONGER)?;
+    same(
+        &rt,
+        "the refusal",
+        &refused,
+        &Err(InstallError::Patched { place: 0x9010 }),
+    );
     Ok(())
 }
 
