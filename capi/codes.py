@@ -1,10 +1,11 @@
 #!/usr/bin/env python3
-"""Writes the codes of common instructions to feddurzai.h, tests/codes.h and the Python package, and all codes to the Rust crate, from the rows of the table.
+"""Writes the codes of common instructions to feddurzai.h, tests/codes.h, the Python package and the crate feddurzai, and all codes to the crate for Rust, from
+the rows of the table.
 
     listing_program rows | capi/codes.py            writes all files
     listing_program rows | capi/codes.py --check    compares the files with what it would write; exit status 1 if one differs
 
-A row is `CODE NOTATION NAME`. The list below selects the rows that have a constant in C and Python and names each; the numbers come from the rows alone.
+A row is `CODE NOTATION NAME`. The list below selects the rows that have a constant and names each; the numbers come from the rows alone.
 rust_names.py names all rows for Rust; the crate also has the number of the interface, which comes from feddurzai.h.
 """
 
@@ -115,15 +116,25 @@ class Code(Named):
 '''
 
 
+RATTLE_HEAD = """//! The codes of common instructions. capi/codes.py writes this file from the rows of the table; `rows::code_of` finds the others.
+//!
+//! In the names RM is a register or memory, REL an offset and IMM an immediate, and a number is a width in bits. JMP, CALL, Jcc, RET, PUSH, POP and LEAVE are
+//! of 64-bit code, unless `_O32`, `R32` or `RM32` marks them as 32-bit code.
+
+use x86_values::Code;
+"""
+
+
 def parts(rows):
-    """The constants as lines of the header, of the test and of the Python package."""
-    constants, tests, members = [], [], []
+    """The constants as lines of the header, of the test, of the Python package and of the crate feddurzai."""
+    constants, tests, members, items = [], [], [], []
     for constant, name, notation in wanted():
         if (name, notation) not in rows:
             sys.exit(f"codes.py: standard input has no row {notation} {name}: pass it the output of listing_program rows")
         code, n = rows[name, notation]
         constant = constant.upper()
         members.append(f"    {constant} = {code}".ljust(32) + f"# {notation}\n")
+        items.append(f"\n/// {name.upper()}: `{notation}`.\npub const {constant}: Code = Code({code});\n")
         constant = f"FEDDURZAI_CODE_{constant}"
         constants.append(f"    {constant} = {code},".ljust(44) + f"/* {notation} */\n")
         tests.append(f'{{{constant}, "{name}", {n}, "{notation}"}},\n')
@@ -132,6 +143,7 @@ def parts(rows):
         "enum {\n" + "".join(constants) + "};\n",
         "/* codes.py writes this: each constant of feddurzai.h with the row that it is for */\n" + "".join(tests),
         PYTHON_HEAD + "".join(members),
+        RATTLE_HEAD + "".join(items),
     )
 
 
@@ -152,12 +164,13 @@ def main():
     header_path = os.path.join(HERE, "feddurzai.h")
     header = text_of(header_path)
     rows = read_rows(sys.stdin)
-    constants, tests, members = parts(by_name(rows))
+    constants, tests, members, items = parts(by_name(rows))
     before, rest = header.split(BEGIN)
     written = {
         header_path: before + BEGIN + constants + END + rest.split(END)[1],
         os.path.join(HERE, "tests", "codes.h"): tests,
         os.path.join(HERE, "python", "feddurzai", "_codes.py"): members,
+        os.path.join(os.path.dirname(HERE), "crates", "feddurzai", "src", "codes.rt"): items,
     }
     interface = re.search(r"^#define FEDDURZAI_INTERFACE (\d+)$", header, re.MULTILINE)
     for name, text in rust_names.files_of(rows, interface[1]).items():

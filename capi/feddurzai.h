@@ -23,9 +23,9 @@
  * Threads: the library has no global state and takes no locks, so any number of threads may call it at once.
  *
  * Memory: feddurzai_move, feddurzai_move_outside, feddurzai_move_blocks, feddurzai_step, feddurzai_step_call,
- * feddurzai_flow, feddurzai_flow_from, feddurzai_flow_unlisted, feddurzai_look and all feddurzai_detour functions
- * call malloc, realloc and free, and free all that they allocate before they return. All other
- * functions allocate nothing and may be called from a signal handler or from a hook of malloc.
+ * feddurzai_flow, feddurzai_flow_from, feddurzai_flow_unlisted, feddurzai_look, feddurzai_format and all
+ * feddurzai_detour functions call malloc, realloc and free, and free all that they allocate before they return. All
+ * other functions allocate nothing and may be called from a signal handler or from a hook of malloc.
  *
  * The header is C99 and C++. Numbers are in the machine's byte order. Lengths and sizes are in bytes. "SDM" is the
  * Intel 64 and IA-32 Architectures Software Developer's Manual; sections are of its volume 2 if no volume is named. The
@@ -44,7 +44,7 @@ extern "C" {
 /* ---- versions ---------------------------------------------------------------------------------------------- */
 
 /* The interface that this header declares. It rises when a struct, a number or a function changes. */
-#define FEDDURZAI_INTERFACE 8
+#define FEDDURZAI_INTERFACE 9
 
 /*
  * Returns the interface of the linked library. If it is not FEDDURZAI_INTERFACE, the library does not match this
@@ -104,7 +104,8 @@ enum {
     FEDDURZAI_UNSEEN = -28,         /* control cannot be followed through the whole function */
     FEDDURZAI_OVERLAPS = -29,       /* the trampoline would lie in the bytes of the function */
     FEDDURZAI_CALLS = -30,          /* a moved call would hand an address in the trampoline to what it calls */
-    FEDDURZAI_PADDING = -31         /* the padding in front of the function has too few bytes, or other code */
+    FEDDURZAI_PADDING = -31,        /* the padding in front of the function has too few bytes, or other code */
+    FEDDURZAI_BAD_OPTIONS = -32     /* a number of the options names no choice */
     /* -256 and below: the instruction has no encoding, see FEDDURZAI_CAUSE */
 };
 
@@ -147,6 +148,7 @@ enum {
 
 #define FEDDURZAI_MAX_LEN 15    /* the longest instruction, in bytes */
 #define FEDDURZAI_MAX_TEXT 161  /* the longest text of this library with its terminating 0, in bytes */
+#define FEDDURZAI_MAX_PIECES 40 /* the most pieces of a text */
 #define FEDDURZAI_CODES 2083    /* the number of rows of the table: codes are 0 to 2082 */
 
 /* The kind of an operand, and the fields of feddurzai_operand that it uses. */
@@ -403,6 +405,116 @@ enum {
  *     len = feddurzai_text(64, FEDDURZAI_ATT, &instr, text, sizeof text);     // 21: movq %rbx, 0x10(%rsp)
  */
 int32_t feddurzai_text(uint32_t bits, uint32_t syntax, const feddurzai_instr *instr, char *out, size_t room);
+
+/* What a piece of a text is: a number of feddurzai_piece.kind. */
+enum {
+    FEDDURZAI_PIECE_PREFIX = 0,         /* lock, rep, a32 */
+    FEDDURZAI_PIECE_MNEMONIC = 1,
+    FEDDURZAI_PIECE_REGISTER = 2,       /* also a segment before an address; in AT&T style with its % */
+    FEDDURZAI_PIECE_KEYWORD = 3,        /* another word of an operand: dword, ptr, far32, rel */
+    FEDDURZAI_PIECE_NUMBER = 4,         /* with its 0x or h */
+    FEDDURZAI_PIECE_OPERATOR = 5,       /* + - * in an address; in AT&T style also $, and * before an operand */
+    FEDDURZAI_PIECE_PUNCTUATION = 6,    /* a comma, a colon, a bracket or a parenthesis */
+    FEDDURZAI_PIECE_SPACE = 7
+};
+
+/* What a number of a text is there for: feddurzai_piece.role. */
+enum {
+    FEDDURZAI_ROLE_IMMEDIATE = 1,
+    FEDDURZAI_ROLE_DISPLACEMENT = 2,    /* beside a base or an index */
+    FEDDURZAI_ROLE_SCALE = 3,
+    FEDDURZAI_ROLE_TARGET = 4,          /* of a near branch */
+    FEDDURZAI_ROLE_ADDRESS = 5,         /* of an operand with neither base nor index, or at RIP or EIP */
+    FEDDURZAI_ROLE_SELECTOR = 6,        /* of a far pointer */
+    FEDDURZAI_ROLE_OFFSET = 7           /* of a far pointer */
+};
+
+#define FEDDURZAI_NO_OPERAND 255        /* the piece belongs to no operand */
+
+/* A piece of a text: the characters from `start` up to `end`, which is not included. */
+typedef struct feddurzai_piece {
+    uint64_t value;     /* of a number, else 0; of a displacement with a minus before it, the whole displacement */
+    uint8_t start;
+    uint8_t end;
+    uint8_t kind;       /* FEDDURZAI_PIECE_PREFIX .. FEDDURZAI_PIECE_SPACE */
+    uint8_t operand;    /* 0 to 3, in the manual's order in every style, or FEDDURZAI_NO_OPERAND */
+    uint8_t role;       /* of a number: FEDDURZAI_ROLE_IMMEDIATE .. FEDDURZAI_ROLE_OFFSET, else 0 */
+    uint8_t width;      /* of a number, in bytes, else 0 */
+} feddurzai_piece;
+
+/*
+ * Writes the text of an instruction and its pieces, for colours and links.
+ *
+ *  - bits, syntax, instr: as in feddurzai_text.
+ *  - text, room: receive the text of feddurzai_text with its terminating 0.
+ *  - pieces, count: receive the pieces. FEDDURZAI_MAX_PIECES are always enough. They cover the text without a gap, and
+ *    none is empty.
+ *
+ * Returns the number of pieces, or FEDDURZAI_BAD_MODE, _BAD_SYNTAX, _BAD_INSTR, _BAD_FORM, _NO_ROOM.
+ *
+ *     feddurzai_piece pieces[FEDDURZAI_MAX_PIECES];
+ *     feddurzai_decode(64, 0x1000, (const uint8_t *)"\x74\x10", 2, &instr);       // je 0x1012
+ *     int32_t count = feddurzai_pieces(64, FEDDURZAI_INTEL, &instr, text, sizeof text, pieces, FEDDURZAI_MAX_PIECES);
+ *     if (count == 3 && pieces[2].role == FEDDURZAI_ROLE_TARGET)                  // the mnemonic, a space, the number
+ *         printf("to %llx\n", (unsigned long long)pieces[2].value);
+ */
+int32_t feddurzai_pieces(uint32_t bits, uint32_t syntax, const feddurzai_instr *instr, char *text, size_t room,
+    feddurzai_piece *pieces, size_t count);
+
+/* The choices of feddurzai_options. 0 is what feddurzai_text writes. */
+enum {
+    FEDDURZAI_UPPER_NAMES = 1,          /* letters: prefixes and mnemonics in upper case */
+    FEDDURZAI_UPPER_REGISTERS = 2,
+    FEDDURZAI_UPPER_KEYWORDS = 3,       /* DWORD PTR */
+    FEDDURZAI_UPPER = 4,                /* all of these */
+    FEDDURZAI_HEX_PREFIX = 1,           /* digits: 0x2a */
+    FEDDURZAI_HEX_SUFFIX = 2,           /* 2Ah */
+    FEDDURZAI_DECIMAL = 3,              /* 42 */
+    FEDDURZAI_SIGNED = 1,               /* immediates: -0x1 */
+    FEDDURZAI_TIGHT = 1,                /* commas: without a space */
+    FEDDURZAI_SIZE_IF_NEEDED = 1,       /* size_words: only where no register shows the size */
+    FEDDURZAI_RIP_DISTANCE = 1,         /* rip_operands: [rip+0x2ebd] */
+    FEDDURZAI_SYMBOL_INSTEAD = 1,       /* symbol_place: in place of the number */
+    FEDDURZAI_SYMBOL_COMMENT = 2,       /* at the end of the text, after # and the address */
+    FEDDURZAI_SYMBOL_GNU = 3            /* of a branch target behind the number, of memory at the end */
+};
+
+/* How feddurzai_format writes a text. Set all bytes to 0, then the fields that matter. docs/texts.md describes each. */
+typedef struct feddurzai_options {
+    uint8_t letters;
+    uint8_t digits;
+    uint8_t immediates;
+    uint8_t commas;
+    uint8_t size_words;
+    uint8_t operand_column;     /* the column of the first operand; at least one space precedes it */
+    uint8_t rip_operands;
+    uint8_t symbol_place;
+} feddurzai_options;
+
+/* What objdump and GDB write: in FEDDURZAI_MASM as with -M intel, in FEDDURZAI_ATT as without. */
+#define FEDDURZAI_GNU_OPTIONS \
+    {FEDDURZAI_UPPER_KEYWORDS, FEDDURZAI_HEX_PREFIX, 0, FEDDURZAI_TIGHT, 0, 7, FEDDURZAI_RIP_DISTANCE, FEDDURZAI_SYMBOL_GNU}
+
+/*
+ * Writes the text of an instruction by options and with a symbol.
+ *
+ *  - bits, syntax, instr: as in feddurzai_text.
+ *  - options: how the text is written, or NULL for the text of feddurzai_text.
+ *  - end: the address of the next instruction. It counts only with FEDDURZAI_RIP_DISTANCE.
+ *  - name, name_len, offset: the symbol of the address that the instruction names (the near target or the address of
+ *    its memory operand, see feddurzai_info), and how far the address lies after the symbol. A name of 0 bytes is none.
+ *  - out, room: receive the text with a terminating 0.
+ *
+ * Returns the length of the text without the 0, or FEDDURZAI_BAD_MODE, _BAD_SYNTAX, _BAD_OPTIONS, _BAD_INSTR, _BAD_FORM,
+ * _NO_MEMORY, _TOO_LARGE (2 gigabytes), _NO_ROOM. The call allocates memory.
+ *
+ *     static const feddurzai_options gnu = FEDDURZAI_GNU_OPTIONS;
+ *     feddurzai_decode(64, 0x1000, (const uint8_t *)"\xe8\xfb\x0f\x00\x00", 5, &instr);
+ *     len = feddurzai_format(64, FEDDURZAI_MASM, &gnu, &instr, 0x1005, "puts@plt", 8, 0, text, sizeof text);
+ *     // call   0x2000 <puts@plt>
+ */
+int32_t feddurzai_format(uint32_t bits, uint32_t syntax, const feddurzai_options *options, const feddurzai_instr *instr,
+    uint64_t end, const char *name, size_t name_len, uint64_t offset, char *out, size_t room);
 
 /*
  * Decodes an instruction and writes its text: feddurzai_decode and feddurzai_text in one call. It is faster than the
@@ -1700,6 +1812,24 @@ static inline int32_t feddurzai_checked_text(uint32_t bits, uint32_t syntax, con
     return feddurzai_text(bits, syntax, instr, out, room);
 }
 
+static inline int32_t feddurzai_checked_pieces(uint32_t bits, uint32_t syntax, const feddurzai_instr *instr, char *text,
+    size_t room, feddurzai_piece *pieces, size_t count)
+{
+    if (instr == NULL || feddurzai_is_null(text, room) || feddurzai_is_null(pieces, count))
+        return FEDDURZAI_NULL;
+    return feddurzai_pieces(bits, syntax, instr, text, room, pieces, count);
+}
+
+/* options may be NULL: then all are 0 */
+static inline int32_t feddurzai_checked_format(uint32_t bits, uint32_t syntax, const feddurzai_options *options,
+    const feddurzai_instr *instr, uint64_t end, const char *name, size_t name_len, uint64_t offset, char *out, size_t room)
+{
+    static const feddurzai_options none = {0, 0, 0, 0, 0, 0, 0, 0};
+    if (instr == NULL || feddurzai_is_null(name, name_len) || feddurzai_is_null(out, room))
+        return FEDDURZAI_NULL;
+    return feddurzai_format(bits, syntax, options == NULL ? &none : options, instr, end, name, name_len, offset, out, room);
+}
+
 static inline int32_t feddurzai_checked_encode(uint32_t bits, uint64_t ip, const feddurzai_instr *instr, uint8_t *out,
     size_t room)
 {
@@ -2003,6 +2133,8 @@ static inline int32_t feddurzai_checked_detour_padding(uint32_t bits, uint64_t i
 #define feddurzai_line feddurzai_checked_line
 #define feddurzai_line_text feddurzai_checked_line_text
 #define feddurzai_text feddurzai_checked_text
+#define feddurzai_pieces feddurzai_checked_pieces
+#define feddurzai_format feddurzai_checked_format
 #define feddurzai_encode feddurzai_checked_encode
 #define feddurzai_encoded_len feddurzai_checked_encoded_len
 #define feddurzai_assemble feddurzai_checked_assemble

@@ -13,6 +13,8 @@ The mode is that of the inferior's architecture. `set feddurzai-bits 16`, 32 or 
 With `set feddurzai-effects on` the list reports what the instruction that ran last has read and written, and marks it with ` >`. With `all` it
 reports what each instruction reads and writes, and with `off` neither.
 
+On a terminal the lists have the colours of GDB's own styles (`show style`).
+
 An instruction that the opcode table leaves out, such as one with EVEX, is listed as one line with GDB's own text, dimmed on a terminal. `set
 feddurzai-unlisted off` lists its bytes one by one instead.
 """
@@ -289,9 +291,60 @@ class Asked:
         return f"   {self.start + len(self.code):#x}: no memory can be read from here on"
 
 
-def dimmed(text):
-    """A text in another shade, where GDB's own output is styled."""
-    return f"\x1b[2m{text}\x1b[m" if gdb.parameter("style enabled") and os.isatty(1) else text
+FOREGROUNDS = ("black", "red", "green", "yellow", "blue", "magenta", "cyan", "white")
+# the style of a piece by its kind; the style of a number depends on its role
+PIECE_STYLES = {
+    feddurzai.PieceKind.PREFIX: "disassembler mnemonic",
+    feddurzai.PieceKind.MNEMONIC: "disassembler mnemonic",
+    feddurzai.PieceKind.REGISTER: "disassembler register",
+    feddurzai.PieceKind.NUMBER: "disassembler immediate",
+}
+PLACES = (feddurzai.Role.TARGET, feddurzai.Role.ADDRESS)
+
+
+class Painter:
+    """Paints words in the styles of GDB (`show style`), where GDB's own output is styled. It is made anew for each command."""
+
+    def __init__(self):
+        self.on = gdb.parameter("style enabled") and os.isatty(1) and os.environ.get("TERM", "dumb") != "dumb"
+        self.known = {}
+        try:
+            self.pieces = self.on and gdb.parameter("style disassembler enabled")
+        except RuntimeError:  # GDB 12
+            self.pieces = self.on
+
+    def start_of(self, style):
+        """The escape sequence that begins a style, empty if the style changes nothing or this GDB has no such style."""
+        if style not in self.known:
+            codes = []
+            try:
+                intensity = gdb.parameter(f"style {style} intensity")
+                codes += [{"bold": 1, "dim": 2}[intensity]] if intensity != "normal" else []
+                for ground, first in ("foreground", 30), ("background", 40):
+                    colour = gdb.parameter(f"style {style} {ground}")
+                    codes += [first + FOREGROUNDS.index(colour)] if colour in FOREGROUNDS else []
+            except (RuntimeError, KeyError):
+                pass
+            self.known[style] = f"\x1b[{';'.join(map(str, codes))}m" if codes else ""
+        return self.known[style]
+
+    def paint(self, style, words):
+        """Words in a style."""
+        start = self.start_of(style) if self.on else ""
+        return f"{start}{words}\x1b[m" if start else words
+
+    def piece(self, piece):
+        """A piece of an instruction's text. GDB has a setting of its own for these."""
+        style = "address" if piece.role in PLACES else PIECE_STYLES.get(piece.kind)
+        return self.paint(style, piece.text) if style else piece.text
+
+    def symbol(self, words):
+        """The words of `symbol_of`, whose first two and last are ` <` and `>`."""
+        return words[:2] + self.paint("function", words[2:-1]) + words[-1:] if words else ""
+
+    def dimmed(self, words):
+        """Words in another shade."""
+        return f"\x1b[2m{words}\x1b[m" if self.on else words
 
 
 def text_by_gdb(item, address, style):
@@ -309,18 +362,19 @@ def text_by_gdb(item, address, style):
     return told["asm"] if told["length"] == item.len and "(bad)" not in told["asm"] else None
 
 
-def unlisted_text(item, address, style):
+def unlisted_text(item, address, style, painter):
     """The text of an instruction that the opcode table leaves out: GDB's own, or else its kind and its bytes."""
-    return dimmed(text_by_gdb(item, address, style) or item.text())
+    return painter.dimmed(text_by_gdb(item, address, style) or item.text())
 
 
-def text_of(item, style):
+def text_of(item, style, painter):
     """The text of an item, followed by the symbol of the address that an instruction names."""
     if item.kind is not feddurzai.ItemKind.INSTRUCTION:
         return item.text()
-    about = item.info()
-    address = about.ip_address if about.target is None else about.target
-    return item.text(style) + ("" if address is None else symbol_of(address))
+    pieces = item.pieces(style)
+    address = next((piece.value for piece in pieces if piece.role in PLACES), None)
+    words = "".join(map(painter.piece, pieces)) if painter.pieces else item.text(style)
+    return words if address is None else words + painter.symbol(symbol_of(address))
 
 
 def last_run():
@@ -444,17 +498,26 @@ class Row:
     """A line of a listing: its mark, its address and its item, and the line below it with what the instruction reads and writes."""
 
     def __init__(self, mark, address, item, effects):
-        self.item, self.address, self.effects = item, address, effects
-        self.place = f"{mark} {address:#x}{symbol_of(address)}:"
+        self.item, self.mark, self.address, self.effects = item, mark, address, effects
+        self.symbol = symbol_of(address)
+
+    def width(self):
+        """How many characters stand before the bytes."""
+        return len(f"{self.mark} {self.address:#x}{self.symbol}:")
+
+    def place(self, painter):
+        """What stands before the bytes."""
+        return f"{self.mark} {painter.paint('address', f'{self.address:#x}')}{painter.symbol(self.symbol)}:"
 
 
 def tell(rows, style):
     """Prints the lines of a listing, in columns."""
-    width = max((len(row.place) for row in rows), default=0)
+    painter = Painter()
+    width = max((row.width() for row in rows), default=0)
     for row in rows:
         unlisted = row.item.kind is feddurzai.ItemKind.UNLISTED
-        text = unlisted_text(row.item, row.address, style) if unlisted else text_of(row.item, style)
-        print(f"{row.place:{width}} {row.item.bytes.hex():30} {text}")
+        text = unlisted_text(row.item, row.address, style, painter) if unlisted else text_of(row.item, style, painter)
+        print(f"{row.place(painter)}{' ' * (width - row.width())} {row.item.bytes.hex():30} {text}")
         if row.effects is not None:
             print(row.effects)
 
@@ -475,15 +538,15 @@ class FlowCommand(gdb.Command):
 
     def invoke(self, words, from_tty):
         asked = Asked(words, "feddurzai-flow [START [LENGTH]] [intel|att|masm]", False)
-        bits, pc = bits_now(), pc_now()
+        bits, pc, painter = bits_now(), pc_now(), Painter()
         for at, leader, _ in feddurzai.flow(bits, asked.start, asked.code):
             address = asked.start + at
             item = next(feddurzai.iterate(bits, address, asked.code[at : at + LONGEST]))
             if at == leader:
-                print(f"block {address:#x}{symbol_of(address)}")
+                print(f"block {painter.paint('address', f'{address:#x}')}{painter.symbol(symbol_of(address))}")
             mark = "=>" if address == pc else "  "
             beside = "" if at == leader else f"  of {asked.start + leader:#x}"
-            print(f"{mark} {address:#x}: {text_of(item, asked.style)}{unresolved(item)}{beside}")
+            print(f"{mark} {painter.paint('address', f'{address:#x}')}: {text_of(item, asked.style, painter)}{unresolved(item)}{beside}")
         if asked.faults:
             print(asked.fault())
 

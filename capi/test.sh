@@ -8,7 +8,7 @@
 #   capi/test.sh [FILE]
 #
 # FILE is raw 64-bit code. The default is the .text of gdb, of python3 or of the C library: the first that is installed and that
-# objcopy accepts. Required: the kit's `rt`, gcc with g++, binutils, python3. Used if installed: gcc-multilib, clang, gdb, pkg-config,
+# objcopy accepts. Required: the kit's `rt`, gcc with g++, binutils, python3. Used if installed: gcc- and g++-multilib, clang, gdb, pkg-config,
 # pip, mypy, pyelftools, Graphviz, cargo, valgrind and dpkg-dev. Each step prints what it ran.
 set -eu
 if [ "${1:-}" = --help ]; then
@@ -129,9 +129,13 @@ tries_hooks() {
         say "$backend: examples/hook_threads.c${way:+, $way}: $(paste -sd ';' "$work/hook_threads.log" | sed 's/;/; /g')"
         hooked hooks "$here/tests/hooks.c" -O2 -DFEDDURZAI_HOOK_WAITS=100 $way
         say "$backend: $(cat "$work/hooks.log")${way:+ ($way)}"
+        hooked hook_forms "$here/tests/hook_forms.c" -O2 $way
+        say "$backend: $(cat "$work/hook_forms.log")${way:+ ($way)}"
     done
     hooked hooks_sanitized "$here/tests/hooks.c" -O1 $sanitized -DFEDDURZAI_HOOK_WAITS=100
     say "$backend: $(cat "$work/hooks_sanitized.log") ($sanitizers)"
+    hooked hook_forms_sanitized "$here/tests/hook_forms.c" -O1 $sanitized
+    say "$backend: $(cat "$work/hook_forms_sanitized.log") ($sanitizers)"
     if command -v g++ >/dev/null; then
         gcc -std=gnu11 -O2 $warn -I"$here" -I"$here/hook" -c "$here/hook/feddurzai_hook.c" -o "$out/feddurzai_hook.o"
         g++ -std=c++11 -O2 $warn -pthread -I"$here" -I"$here/hook" "$here/tests/hooks_cpp.cpp" "$out/feddurzai_hook.o" "$out/libfeddurzai.a" -ldl -o "$out/hooks_cpp"
@@ -141,20 +145,33 @@ tries_hooks() {
     tries_hooks32
 }
 
-# tries_hooks32: functions of a 32-bit program, hooked in its file, return what they returned before
+# hooks_file NAME: hooks the functions of a 32-bit program in its file; it prints what it printed before
+hooks_file() {
+    "$out/hooks32" "$out/$1" "$out/$1.out" >"$work/hooks32.log" || die_with "$work/hooks32.log" "$backend: tests/hooks32.c failed"
+    chmod +x "$out/$1.out"
+    "$out/$1.out" >"$work/after32.log" || die_with "$work/after32.log" "$backend: tests/$1: a hook was not called, or an object not destroyed"
+    cmp "$work/before32.log" "$work/after32.log" || die "$backend: tests/$1: a hooked function returns something else"
+    hooked32=$(grep -c ': hooked' "$work/hooks32.log")
+}
+
+# tries_hooks32: functions of 32-bit programs, also such as throw, hooked in their files
 tries_hooks32() {
     if ! gcc -m32 -std=gnu11 -O2 -fPIC -no-pie $warn "$here/tests/hooked32.c" -o "$out/hooked32" 2>"$work/cc.log" || ! "$out/hooked32" >"$work/before32.log"; then
         say "$backend: skipped 32-bit hooks: gcc -m32 does not compile (gcc-multilib), or the system does not run its program"
         return
     fi
     gcc -std=gnu11 -O2 $warn -I"$here" -I"$here/hook" "$here/tests/hooks32.c" "$here/hook/feddurzai_hook.c" "$out/libfeddurzai.a" -ldl -o "$out/hooks32"
-    "$out/hooks32" "$out/hooked32" "$out/hooked32.out" >"$work/hooks32.log" || die_with "$work/hooks32.log" "$backend: tests/hooks32.c failed"
-    chmod +x "$out/hooked32.out"
-    "$out/hooked32.out" >"$work/after32.log" || die_with "$work/after32.log" "$backend: tests/hooked32.c: a hook was not called"
-    cmp "$work/before32.log" "$work/after32.log" || die "$backend: a hooked 32-bit function returns something else"
+    hooks_file hooked32
     # position-independent code whose first call is a thunk
     grep -q '^pic_sum: hooked' "$work/hooks32.log" || die_with "$work/hooks32.log" "$backend: tests/hooks32.c: a function that begins with a thunk is not hooked"
-    say "$backend: 32-bit code: $(grep -c ': hooked' "$work/hooks32.log") functions hooked, their results are the same"
+    said="$hooked32 functions hooked, their results are the same"
+    if ! g++ -m32 -std=c++11 -O2 -fPIC -no-pie $warn "$here/tests/hooked32_cpp.cpp" -o "$out/hooked32_cpp" 2>"$work/cc.log" || ! "$out/hooked32_cpp" >"$work/before32.log"; then
+        say "$backend: 32-bit code: $said; skipped C++: g++ -m32 does not compile (g++-multilib)"
+        return
+    fi
+    hooks_file hooked32_cpp
+    grep -q '^throws: hooked' "$work/hooks32.log" || die_with "$work/hooks32.log" "$backend: tests/hooked32_cpp.cpp: the function that throws is not hooked"
+    say "$backend: 32-bit code: $said; C++ exceptions pass $hooked32 more"
 }
 
 # makes_debugged [-g]: a program to look into. It has a call, a call through the PLT, and bytes at the end of what can be read
@@ -212,6 +229,17 @@ tries_gdb() {
     lines_are 3
     in_gdb '^=> ' 'feddurzai-list /2'
     lines_are 2
+    # on a terminal the list has colours, and without them it is the plain one
+    if command -v script >/dev/null; then
+        in_gdb '<main' 'feddurzai-list main'
+        grep '^[ =][ >] 0x' "$work/gdb.log" >"$work/plain.list"
+        TERM=xterm script -qc "gdb -nx -batch -ex 'source $gdb_script' -ex 'set style enabled on' -ex 'break called' -ex run -ex 'feddurzai-list main' $work/debugged" \
+            /dev/null </dev/null >"$work/coloured.log" 2>&1 || true
+        escape=$(printf '\033')
+        grep -q "$escape\[[0-9;]*mcall$escape" "$work/coloured.log" || die_with "$work/coloured.log" "GDB: feddurzai-list has no colours on a terminal"
+        sed "s/$escape\[[0-9;]*m//g" "$work/coloured.log" | tr -d '\r' | grep '^[ =][ >] 0x' | cmp -s - "$work/plain.list" \
+            || die_with "$work/coloured.log" "GDB: without its colours feddurzai-list lists something else"
+    fi
     # what can be read before a fault, and the end of the bytes
     in_gdb '^   0x[0-9a-f]+: 4883 +\(the bytes end here\)$' 'feddurzai-list edge 20'
     grep -Eq '^   0x[0-9a-f]+000: no memory can be read from here on$' "$work/gdb.log" || die_with "$work/gdb.log" "GDB: 'feddurzai-list edge 20' does not report unreadable memory"

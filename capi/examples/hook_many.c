@@ -347,7 +347,7 @@ static uint64_t run_OWN_RET(function f)
 
 #define LIBC_NAME "libc.so.6"
 #define LIBZ_NAME "libz.so.1"
-#define EMPTY {{0, 0, 0, 0, 0, 0, 0, 0}, 0, 0, 0, 0, {0}, {0}, {0}, 0, {0}, {0}}
+#define EMPTY {{0, 0, 0, 0, 0, 0, 0, 0}, 0, 0, 0, 0, {0}, {0}, {0}, 0, {0}, {0}, 0, 0, 0, {0}, {0}}
 #define ROW(name, kind, library) {#name, run_##kind, (function)new_##name, library, NULL, 0, NULL, 0, 0, EMPTY},
 #define ROW_INT(name) ROW(name, INT, LIBC_NAME)
 #define ROW_LOCALE(name) ROW(name, LOCALE, LIBC_NAME)

@@ -99,20 +99,20 @@ static int32_t refuse(feddurzai_hook_parts *parts, int32_t said, uint64_t at, ui
     return said;
 }
 
-/* checks that no taken instruction accesses memory in the taken bytes, where the patch will be */
+/* checks that no taken instruction accesses memory in the bytes that will be overwritten */
 static int32_t check_operands(uint32_t bits, uint64_t ip, const uint8_t *code, size_t len, feddurzai_hook_parts *parts)
 {
+    uint64_t first = ip + parts->kept - parts->jump_len, bytes = parts->jump_len + parts->detour.taken;
     int k;
     for (k = 0; k < parts->count; k++) {
-        uint64_t at = parts->taken_at[k], to;
+        uint64_t at = parts->taken_at[k];
         feddurzai_instr instr;
         feddurzai_about about;
         if (feddurzai_decode(bits, ip + at, code + at, len - (size_t)at, &instr) < 0 || feddurzai_info(&instr, &about) < 0)
             continue;
-        to = offset_of(bits, ip, about.ip_address);
         /* LEA has no size: it accesses nothing */
-        if (about.has_ip_address && about.memory_size > 0 && to < parts->detour.taken)
-            return refuse(parts, FEDDURZAI_HOOK_OWN_BYTES, at, to);
+        if (about.has_ip_address && about.memory_size > 0 && offset_of(bits, first, about.ip_address) < bytes)
+            return refuse(parts, FEDDURZAI_HOOK_OWN_BYTES, at, offset_of(bits, ip, about.ip_address));
     }
     return 0;
 }
@@ -144,33 +144,84 @@ static uint32_t rules_of(uint32_t flags)
     return rules;
 }
 
+static uint32_t start_of(uint32_t flags)
+{
+    return flags & FEDDURZAI_HOOK_ALLOW_LOOPS ? FEDDURZAI_START_HOOKED : FEDDURZAI_START_MOVED;
+}
+
+/* how many bytes in front of the function the caller says are padding */
+static uint32_t padding_of(uint32_t flags)
+{
+    return flags >> 16 & 255;
+}
+
+/* the parts from what the library reported of the function behind the kept bytes, and the checks of this file */
+static int32_t finish(int32_t said, uint32_t bits, uint64_t ip, const uint8_t *code, size_t len,
+    const feddurzai_hook_report *report, const feddurzai_moved_start *moved, feddurzai_hook_parts *parts)
+{
+    uint64_t kept = parts->kept;
+    parts->detour = report->detour;
+    if (said < 0 && !parts->in_padding)
+        said = own_status(said, &report->detour);
+    if (said < 0)
+        return refuse(parts, said, report->detour.at, report->detour.target);
+    parts->detour.bytes += kept;
+    parts->detour.jump_back += kept;
+    parts->detour.slots_at += kept;
+    parts->detour.relay_at += kept;
+    parts->unseen_at = report->view.sight == FEDDURZAI_SIGHT_WHOLE ? len : kept + report->view.sight_at;
+    memcpy(parts->before, code + kept, (size_t)parts->detour.taken);
+    for (; parts->count < report->moved; parts->count++) {
+        parts->taken_at[parts->count] = (uint8_t)(kept + moved[parts->count].start);
+        parts->place_at[parts->count] = (uint8_t)(kept + moved[parts->count].place);
+    }
+    if (code[kept] == INT3)
+        return refuse(parts, FEDDURZAI_HOOK_BREAKPOINT, kept, 0);
+    return check_operands(bits, ip, code, len, parts);
+}
+
+/* the form with a short jump to a near jump in the padding */
+static int32_t make_padded(uint32_t bits, uint64_t ip, const uint8_t *code, size_t len, uint64_t to, uint64_t place,
+    uint32_t flags, feddurzai_hook_parts *parts)
+{
+    size_t padding = padding_of(flags);
+    feddurzai_moved_start moved[FEDDURZAI_MAX_PATCH];
+    feddurzai_padded_report report;
+    int32_t said;
+    memset(parts, 0, sizeof *parts);
+    parts->place = place;
+    said = feddurzai_detour_padding(bits, ip, code - padding, padding, code, len, to, place, start_of(flags), rules_of(flags),
+        NULL, 0, parts->jump, sizeof parts->jump, parts->patch, sizeof parts->patch, parts->trampoline,
+        sizeof parts->trampoline, moved, FEDDURZAI_MAX_PATCH, &report);
+    parts->jump_len = (uint8_t)report.jump;
+    parts->in_padding = (uint8_t)report.padding;
+    memcpy(parts->jump_before, code - report.jump, (size_t)report.jump);
+    return finish(said, bits, ip, code, len, &report.hook, moved, parts);
+}
+
 int32_t feddurzai_hook_make(uint32_t bits, uint64_t ip, const uint8_t *code, size_t len, uint64_t to, uint64_t place,
     uint32_t flags, feddurzai_hook_parts *parts)
 {
-    uint32_t start = flags & FEDDURZAI_HOOK_ALLOW_LOOPS ? FEDDURZAI_START_HOOKED : FEDDURZAI_START_MOVED;
     feddurzai_moved_start moved[FEDDURZAI_MAX_PATCH];
-    feddurzai_hook_report report;
+    feddurzai_kept_report report;
     int32_t said;
     if (parts == NULL)
         return FEDDURZAI_NULL;
     memset(parts, 0, sizeof *parts);
     parts->place = place;
-    said = feddurzai_detour_with(bits, ip, code, len, to, place, start, rules_of(flags), NULL, 0, parts->patch,
-        sizeof parts->patch, parts->trampoline, sizeof parts->trampoline, moved, FEDDURZAI_MAX_PATCH, &report);
+    report.kept = 0;
+    if (flags & FEDDURZAI_HOOK_KEEP_ENDBR)
+        said = feddurzai_detour_endbr(bits, ip, code, len, to, place, start_of(flags), rules_of(flags), NULL, 0, parts->patch,
+            sizeof parts->patch, parts->trampoline, sizeof parts->trampoline, moved, FEDDURZAI_MAX_PATCH, &report);
+    else
+        said = feddurzai_detour_with(bits, ip, code, len, to, place, start_of(flags), rules_of(flags), NULL, 0, parts->patch,
+            sizeof parts->patch, parts->trampoline, sizeof parts->trampoline, moved, FEDDURZAI_MAX_PATCH, &report.hook);
     if (said == FEDDURZAI_NULL)
         return said;
-    parts->detour = report.detour;
-    if (said < 0)
-        return refuse(parts, own_status(said, &report.detour), report.detour.at, report.detour.target);
-    parts->unseen_at = report.view.sight == FEDDURZAI_SIGHT_WHOLE ? len : report.view.sight_at;
-    memcpy(parts->before, code, (size_t)parts->detour.taken);
-    for (; parts->count < report.moved; parts->count++) {
-        parts->taken_at[parts->count] = (uint8_t)moved[parts->count].start;
-        parts->place_at[parts->count] = (uint8_t)moved[parts->count].place;
-    }
-    if (code[0] == INT3)
-        return refuse(parts, FEDDURZAI_HOOK_BREAKPOINT, 0, 0);
-    return check_operands(bits, ip, code, len, parts);
+    parts->kept = (uint8_t)report.kept;
+    if ((said == FEDDURZAI_SMALL || said == FEDDURZAI_ENDS) && report.kept == 0 && len > 0 && padding_of(flags) > 0)
+        return make_padded(bits, ip, code, len, to, place, flags, parts);
+    return finish(said, bits, ip, code, len, &report.hook, moved, parts);
 }
 
 /* ---- the table ---------------------------------------------------------------------------------------------- */
@@ -178,19 +229,36 @@ int32_t feddurzai_hook_make(uint32_t bits, uint64_t ip, const uint8_t *code, siz
 /* A hook that is removed, disabled or enabled; and one whose function begins with INT3, since a change is under way. */
 enum state { GONE, OFF, ON, TURNING_ON, TURNING_OFF };
 
+/* An earlier hook of a function, under the one that is in its entry. */
+struct layer {
+    uint64_t replacement, place;
+    uint32_t flags;
+    feddurzai_hook_parts parts;
+    struct layer *under;
+};
+
 /*
- * An entry. The signal handlers read `target`, `state`, `replacement`, `place` and, while the hook is being enabled,
- * `parts`. These change only while the function has its own bytes. An entry keeps its target for ever.
+ * An entry. The signal handlers read `target`, `jump_at`, `state`, `replacement`, `place` and, while the hook is being
+ * enabled, `parts`. These change only while the function has its own bytes, or where one hook goes over another: both
+ * have as many bytes in the patch then, and move the same instructions. An entry keeps its target for ever.
  */
 struct hook {
-    _Atomic(uint64_t) target;           /* 0: the entry is free */
+    _Atomic(uint64_t) target;           /* where the patch is, behind an ENDBR64 that is kept. 0: the entry is free */
+    _Atomic(uint64_t) jump_at;          /* where the near jump in the padding is, or 0. It stays there for ever */
     _Atomic(uint64_t) replacement, place;
     atomic_int state;
+    uint64_t function;                  /* its first byte, by which it is known to the caller */
+    size_t len;
     int wanted;                         /* OFF or ON: what the next change makes of it */
+    int was;                            /* the state before the change that is under way */
     int stuck;                          /* a write failed between INT3 and the end of a change */
     uint32_t flags;
-    uint64_t kept[2];                   /* its trampolines near and far, or 0 */
+    uint64_t places[2];                 /* its trampolines near and far, or 0 */
+    uint8_t now[FEDDURZAI_MAX_PATCH];   /* the bytes at the target between changes */
+    uint8_t jump[sizeof ((feddurzai_hook_parts *)0)->jump];     /* those at `jump_at`, */
+    uint8_t padding[sizeof ((feddurzai_hook_parts *)0)->jump];  /* and the padding that was there */
     feddurzai_hook_parts parts;
+    struct layer *under;                /* the hooks of the function before this one, the last first */
 };
 
 struct chunk {
@@ -251,12 +319,24 @@ static struct hook *next_hook(struct walk *walk)
     return &walk->chunk->hooks[walk->at];
 }
 
+/* the entry whose patch is at an address */
 static struct hook *hook_at(uint64_t target)
 {
     struct walk walk = {NULL, 0};
     struct hook *hook;
     while ((hook = next_hook(&walk)) != NULL)
         if (atomic_load(&hook->target) == target)
+            return hook;
+    return NULL;
+}
+
+/* the entry whose near jump is in the padding at an address */
+static struct hook *hook_of_jump(uint64_t address)
+{
+    struct walk walk = {NULL, 0};
+    struct hook *hook;
+    while ((hook = next_hook(&walk)) != NULL)
+        if (atomic_load(&hook->jump_at) == address)
             return hook;
     return NULL;
 }
@@ -278,17 +358,22 @@ static struct hook *free_hook(void)
     return &chunk->hooks[0];
 }
 
-static int is_hooked(uint64_t target)
+/* the hook of a function, or NULL */
+static struct hook *hook_of(uint64_t function)
 {
-    struct hook *hook = hook_at(target);
-    return hook != NULL && atomic_load(&hook->state) != GONE;
+    struct walk walk = {NULL, 0};
+    struct hook *hook;
+    while ((hook = next_hook(&walk)) != NULL)
+        if (hook->function == function && atomic_load(&hook->state) != GONE)
+            return hook;
+    return NULL;
 }
 
-/* the offset of an address in the taken bytes of a hook, or 0 if it is not behind their first instruction */
+/* the offset in its function of an address in the taken bytes of a hook, or 0 if it is not behind their first byte */
 static uint64_t inside_of(struct hook *hook, uint64_t address)
 {
     uint64_t at = address - atomic_load(&hook->target);
-    return at < hook->parts.detour.taken ? at : 0;
+    return at > 0 && at < hook->parts.detour.taken ? hook->parts.kept + at : 0;
 }
 
 /* ---- sizes of functions ------------------------------------------------------------------------------------- */
@@ -632,30 +717,32 @@ static void pass_on(int signal, siginfo_t *info, void *context)
     }
 }
 
-/* whether a function begins with an INT3 that no change has written */
-static int is_foreign(struct hook *hook, int state)
+/* whether an address of a hook has an INT3 that no change has written */
+static int is_foreign(struct hook *hook, int state, uint64_t address)
 {
     uint32_t before = atomic_load(&table.changes);
-    int is_int3 = *(const volatile uint8_t *)(uintptr_t)atomic_load(&hook->target) == INT3;
+    int is_int3 = *(const volatile uint8_t *)(uintptr_t)address == INT3;
     return is_int3 && before % 2 == 0 && atomic_load(&table.changes) == before && atomic_load(&hook->state) == state
         && state != TURNING_ON && state != TURNING_OFF;
 }
 
-/* a call that met the INT3 of a change goes to the replacement or the trampoline; after the change it starts anew */
+/* a call that met the INT3 of a change goes to the replacement or the trampoline; after the change it starts anew, and
+   so does one that met it in the padding while the function gets its own bytes */
 static void at_trap(int signal, siginfo_t *info, void *context)
 {
     greg_t *rip = &((ucontext_t *)context)->uc_mcontext.gregs[REG_RIP];
+    uint64_t address = (uint64_t)*rip - 1;
     int is_int3 = info->si_code == SI_KERNEL || info->si_code == TRAP_BRKPT;
-    struct hook *hook = is_int3 ? hook_at((uint64_t)*rip - 1) : NULL;
+    struct hook *at = is_int3 ? hook_at(address) : NULL, *hook = is_int3 && at == NULL ? hook_of_jump(address) : at;
     int state = hook == NULL ? GONE : atomic_load(&hook->state);
-    if (hook == NULL || is_foreign(hook, state)) {
+    if (hook == NULL || is_foreign(hook, state, address)) {
         pass_on(signal, info, context);
         return;
     }
     atomic_fetch_add(&table.traps, 1);
     if (state == TURNING_ON)
         *rip = (greg_t)atomic_load(&hook->replacement);
-    else if (state == TURNING_OFF)
+    else if (state == TURNING_OFF && at != NULL)
         *rip = (greg_t)atomic_load(&hook->place);
     else
         *rip -= 1;
@@ -1008,11 +1095,23 @@ static int32_t ask_threads(void)
 
 /* ---- a change ----------------------------------------------------------------------------------------------- */
 
-/* Whether a hook is to be changed: `only` this one, or NULL for each. */
+static const uint8_t *bytes_of(const struct hook *hook, int state)
+{
+    return state == ON ? hook->parts.patch : hook->parts.before;
+}
+
+/* whether the near jump in the padding is another one than the hook that is to be enabled has */
+static int is_jump_due(const struct hook *hook)
+{
+    return hook->wanted == ON && memcmp(hook->jump, hook->parts.jump, hook->parts.jump_len) != 0;
+}
+
+/* Whether a hook is to be changed: `only` this one, or NULL for each. One that goes over another has other bytes. */
 static int is_due(struct hook *hook, struct hook *only)
 {
     int state = atomic_load(&hook->state);
-    return state != GONE && state != hook->wanted && (only == NULL || only == hook);
+    int is_other = memcmp(hook->now, bytes_of(hook, hook->wanted), (size_t)hook->parts.detour.taken) != 0 || is_jump_due(hook);
+    return state != GONE && (state != hook->wanted || is_other) && (only == NULL || only == hook);
 }
 
 static struct hook *next_due(struct walk *walk, struct hook *only)
@@ -1023,15 +1122,12 @@ static struct hook *next_due(struct walk *walk, struct hook *only)
     return hook;
 }
 
-static const uint8_t *bytes_of(const struct hook *hook, int state)
+/* whether somebody else has written to a function or to its near jump */
+static int is_changed(struct hook *hook)
 {
-    return state == ON ? hook->parts.patch : hook->parts.before;
-}
-
-/* the state that a hook had before its change */
-static int state_before(const struct hook *hook)
-{
-    return hook->wanted == ON ? OFF : ON;
+    uint64_t jump_at = atomic_load(&hook->jump_at);
+    return memcmp(code_at(atomic_load(&hook->target)), hook->now, (size_t)hook->parts.detour.taken) != 0
+        || (jump_at != 0 && memcmp(code_at(jump_at), hook->jump, sizeof hook->jump) != 0);
 }
 
 /* checks that each function has the bytes that it should have. Counts the hooks to change, and what they need */
@@ -1042,12 +1138,12 @@ static int32_t check_due(struct hook *only, int *count, int *alone, int *asks)
     *count = *asks = 0;
     *alone = 1;
     while ((hook = next_due(&walk, only)) != NULL) {
-        const uint8_t *target = code_at(atomic_load(&hook->target));
-        if (!hook->stuck && memcmp(target, bytes_of(hook, state_before(hook)), (size_t)hook->parts.detour.taken) != 0)
+        int opens = hook->wanted == ON && atomic_load(&hook->state) != ON;
+        if (!hook->stuck && is_changed(hook))
             return FEDDURZAI_HOOK_CHANGED;
         ++*count;
         *alone = *alone && (hook->flags & FEDDURZAI_HOOK_ALONE);
-        *asks = *asks || (hook->wanted == ON && hook->parts.count > 1 && !(hook->flags & FEDDURZAI_HOOK_ALONE));
+        *asks = *asks || (opens && hook->parts.count > 1 && !(hook->flags & FEDDURZAI_HOOK_ALONE));
     }
     return 0;
 }
@@ -1062,6 +1158,17 @@ static int32_t check_process(int threads)
     return each_thread(takes_traps, NULL) ? 0 : FEDDURZAI_HOOK_TRAP_BLOCKED;
 }
 
+/* writes the bytes of a hook behind the first, or the first: those of its near jump in the padding, if that changes, and
+   then those of the patch */
+static int32_t write_one(int mem, struct hook *hook, const uint8_t *jump, const uint8_t *patch, int first)
+{
+    size_t from = first ? 0 : 1, len = hook->parts.jump_len, taken = (size_t)hook->parts.detour.taken;
+    int32_t said = 0;
+    if (is_jump_due(hook))
+        said = write_code(mem, atomic_load(&hook->jump_at) + from, jump + from, first ? 1 : len - 1);
+    return said < 0 ? said : write_code(mem, atomic_load(&hook->target) + from, patch + from, first ? 1 : taken - 1);
+}
+
 /* writes INT3 over the first byte of each function */
 static int32_t write_traps(int mem, struct hook *only)
 {
@@ -1070,8 +1177,9 @@ static int32_t write_traps(int mem, struct hook *only)
     struct hook *hook;
     int32_t said = 0;
     while (said == 0 && (hook = next_due(&walk, only)) != NULL) {
+        hook->was = atomic_load(&hook->state);
         atomic_store(&hook->state, hook->wanted == ON ? TURNING_ON : TURNING_OFF);
-        said = write_code(mem, atomic_load(&hook->target), &int3, 1);
+        said = write_one(mem, hook, &int3, &int3, 1);
     }
     return said;
 }
@@ -1081,14 +1189,18 @@ static void undo_traps(int mem, struct hook *only)
 {
     struct walk walk = {NULL, 0};
     struct hook *hook;
-    while ((hook = next_due(&walk, only)) != NULL)
-        if (!hook->stuck && write_code(mem, atomic_load(&hook->target), bytes_of(hook, state_before(hook)), 1) < 0)
+    while ((hook = next_due(&walk, only)) != NULL) {
+        int state = atomic_load(&hook->state);
+        if (!hook->stuck && (state == TURNING_ON || state == TURNING_OFF) && write_one(mem, hook, hook->jump, hook->now, 1) < 0)
             hook->stuck = 1;
+    }
     serialize();
     walk = (struct walk){NULL, 0};
-    while ((hook = next_due(&walk, only)) != NULL)
-        if (!hook->stuck)
-            atomic_store(&hook->state, state_before(hook));
+    while ((hook = next_due(&walk, only)) != NULL) {
+        int state = atomic_load(&hook->state);
+        if (!hook->stuck && (state == TURNING_ON || state == TURNING_OFF))
+            atomic_store(&hook->state, hook->was);
+    }
 }
 
 /* writes the bytes of each function behind the first, or the first */
@@ -1098,13 +1210,7 @@ static int32_t write_rest(int mem, struct hook *only, int first)
     struct hook *hook;
     int32_t said = 0;
     while ((hook = next_due(&walk, only)) != NULL) {
-        const uint8_t *bytes = bytes_of(hook, hook->wanted);
-        uint64_t target = atomic_load(&hook->target);
-        int32_t here;
-        if (first)
-            here = write_code(mem, target, bytes, 1);
-        else
-            here = write_code(mem, target + 1, bytes + 1, (size_t)hook->parts.detour.taken - 1);
+        int32_t here = write_one(mem, hook, hook->parts.jump, bytes_of(hook, hook->wanted), first);
         hook->stuck = here < 0;
         said = here < 0 ? here : said;
     }
@@ -1130,9 +1236,12 @@ static int32_t write_due(int mem, struct hook *only, int asks)
     if (said == 0)
         said = write_rest(mem, only, 1);
     while ((hook = next_due(&walk, only)) != NULL)
-        if (said == 0)
+        if (said == 0) {
+            if (is_jump_due(hook))
+                memcpy(hook->jump, hook->parts.jump, sizeof hook->jump);
+            memcpy(hook->now, bytes_of(hook, hook->wanted), sizeof hook->now);
             atomic_store(&hook->state, hook->wanted);
-        else
+        } else
             hook->stuck = 1;
     return said;
 }
@@ -1209,28 +1318,36 @@ static int32_t leave(int cancel, int32_t said)
     return said;
 }
 
-/* a copy of a function, with its own bytes where hooks have overwritten them, or NULL */
-static uint8_t *own_code(uint64_t target, size_t len)
+/* puts bytes that are at one address into a copy of those at another */
+static void put_back(uint8_t *code, uint64_t from, size_t len, uint64_t at, const uint8_t *bytes, uint64_t count)
+{
+    uint64_t k;
+    for (k = 0; k < count; k++)
+        if (at + k - from < len)
+            code[at + k - from] = bytes[k];
+}
+
+/* a copy of some code, with the program's own bytes where hooks have overwritten them, or NULL */
+static uint8_t *own_code(uint64_t from, size_t len)
 {
     struct walk walk = {NULL, 0};
     uint8_t *code = malloc(len);
     struct hook *hook;
     if (code == NULL)
         return NULL;
-    memcpy(code, code_at(target), len);
+    memcpy(code, code_at(from), len);
     while ((hook = next_hook(&walk)) != NULL) {
-        uint64_t at = atomic_load(&hook->target), k;
-        if (atomic_load(&hook->state) == GONE || atomic_load(&hook->state) == OFF)
-            continue;
-        for (k = 0; k < hook->parts.detour.taken; k++)
-            if (at + k - target < len)
-                code[at + k - target] = hook->parts.before[k];
+        int state = atomic_load(&hook->state);
+        if (atomic_load(&hook->jump_at) != 0)
+            put_back(code, from, len, atomic_load(&hook->jump_at), hook->padding, sizeof hook->padding);
+        if (state != GONE && state != OFF)
+            put_back(code, from, len, atomic_load(&hook->target), hook->parts.before, hook->parts.detour.taken);
     }
     return code;
 }
 
-/* whether other hooks overwrite a part of some bytes */
-static int overlaps(const struct hook *self, uint64_t target, uint64_t taken)
+/* whether other hooks overwrite a part of the bytes that a hook overwrites */
+static int overlaps(const struct hook *self, uint64_t target, const feddurzai_hook_parts *parts)
 {
     struct walk walk = {NULL, 0};
     struct hook *hook;
@@ -1238,7 +1355,7 @@ static int overlaps(const struct hook *self, uint64_t target, uint64_t taken)
         uint64_t at = atomic_load(&hook->target);
         if (hook == self || atomic_load(&hook->state) == GONE)
             continue;
-        if (at < target + taken && target < at + hook->parts.detour.taken)
+        if (at - hook->parts.jump_len < target + parts->detour.taken && target - parts->jump_len < at + hook->parts.detour.taken)
             return 1;
     }
     return 0;
@@ -1247,7 +1364,7 @@ static int overlaps(const struct hook *self, uint64_t target, uint64_t taken)
 /* What is to be hooked, with what. */
 struct job {
     uint64_t target, to;
-    const uint8_t *code;
+    const uint8_t *code;        /* behind the padding that the caller spoke of */
     size_t len;
     uint32_t flags;
 };
@@ -1326,47 +1443,138 @@ static void release(uint64_t place)
         feddurzai_region_release(&area->region, area->live, BLOCKS, place);
 }
 
+/* whether the first bytes of a function are an ENDBR64 that is kept */
+static int keeps_endbr(const struct job *job)
+{
+    return (job->flags & FEDDURZAI_HOOK_KEEP_ENDBR) && job->len >= 4 && memcmp(job->code, "\xf3\x0f\x1e\xfa", 4) == 0;
+}
+
+/* the hook that is in an entry */
+static struct layer layer_of(struct hook *hook)
+{
+    struct layer layer = {atomic_load(&hook->replacement), atomic_load(&hook->place), hook->flags, hook->parts, hook->under};
+    return layer;
+}
+
+static void set_layer(struct hook *hook, const struct layer *layer)
+{
+    hook->flags = layer->flags;
+    hook->parts = layer->parts;
+    hook->under = layer->under;
+    atomic_store(&hook->replacement, layer->replacement);
+    atomic_store(&hook->place, layer->place);
+}
+
+/* puts the hook of an entry under a new one. Returns 0 if there is no memory */
+static int cover(struct hook *hook)
+{
+    struct layer *layer = malloc(sizeof *layer);
+    if (layer == NULL)
+        return 0;
+    *layer = layer_of(hook);
+    hook->under = layer;
+    return 1;
+}
+
+/* takes the last hook out of an entry: the one under it is there again */
+static void uncover(struct hook *hook)
+{
+    struct layer *layer = hook->under;
+    set_layer(hook, layer);
+    free(layer);
+}
+
+/* ends all hooks of an entry whose function has its own bytes */
+static void end_hook(struct hook *hook)
+{
+    while (hook->under != NULL)
+        uncover(hook);
+    atomic_store(&hook->state, GONE);
+}
+
+/* why a hook cannot go over the live one of its function */
+static int32_t check_over(const struct job *job, struct hook *live)
+{
+    if (!(job->flags & FEDDURZAI_HOOK_OVER))
+        return FEDDURZAI_HOOK_EXISTS;
+    return (job->flags & FEDDURZAI_HOOK_DISABLED) && live->wanted == ON ? FEDDURZAI_HOOK_BAD_ARGUMENT : 0;
+}
+
+/* whether a hook overwrites exactly the bytes that the live one of its function does */
+static int is_over(const struct hook *hook, const struct hook *live, const feddurzai_hook_parts *parts)
+{
+    return hook == live && parts->detour.taken == live->parts.detour.taken && parts->jump_len == live->parts.jump_len;
+}
+
+/* makes a hook for an entry, and writes its trampoline if it is a new one */
+static int32_t place_hook(const struct job *job, struct hook *hook, const struct hook *live, uint64_t at,
+    feddurzai_hook_parts *parts)
+{
+    uint64_t *kept = &hook->places[(job->flags & FEDDURZAI_HOOK_FAR) != 0];
+    int32_t said = make_hook(job, *kept, parts);
+    if (said < 0)
+        return said;
+    if (live != NULL && !is_over(hook, live, parts))
+        said = FEDDURZAI_HOOK_OTHER_PATCH;
+    else if (overlaps(hook, at, parts))
+        said = FEDDURZAI_HOOK_OVERLAPS;
+    else if (live != NULL && !cover(hook))
+        said = FEDDURZAI_HOOK_NO_MEMORY;
+    else if (parts->place != *kept && (said = write_trampoline(parts)) < 0 && live != NULL)
+        uncover(hook);
+    if (said < 0 && parts->place != *kept)
+        release(parts->place);
+    if (said == 0)
+        *kept = parts->place;
+    return said;
+}
+
 /* installs a hook of a function whose own bytes are in the job. The lock is taken */
 static int32_t install(const struct job *job, void *original, feddurzai_hook_parts *parts)
 {
-    struct hook *hook = hook_at(job->target);
-    uint64_t *kept;
+    struct hook *live = hook_of(job->target), *hook;
+    uint64_t at = job->target + (keeps_endbr(job) ? 4 : 0);
     void *place;
-    int32_t said;
-    if (is_hooked(job->target))
-        return FEDDURZAI_HOOK_EXISTS;
-    if (hook == NULL && (hook = free_hook()) == NULL)
-        return FEDDURZAI_HOOK_NO_MEMORY;
-    kept = &hook->kept[(job->flags & FEDDURZAI_HOOK_FAR) != 0];
-    said = make_hook(job, *kept, parts);
+    int32_t said = live == NULL ? 0 : check_over(job, live);
     if (said < 0)
         return said;
-    if (overlaps(hook, job->target, parts->detour.taken))
-        said = FEDDURZAI_HOOK_OVERLAPS;
-    else if (parts->place != *kept)
-        said = write_trampoline(parts);
-    if (said < 0) {
-        if (parts->place != *kept)
-            release(parts->place);
+    hook = hook_at(at);
+    if (hook == NULL && (hook = free_hook()) == NULL)
+        return FEDDURZAI_HOOK_NO_MEMORY;
+    /* behind its ENDBR64 another function is hooked */
+    if (live == NULL && atomic_load(&hook->state) != GONE)
+        return FEDDURZAI_HOOK_OVERLAPS;
+    said = place_hook(job, hook, live, at, parts);
+    if (said < 0)
         return said;
-    }
-    *kept = parts->place;
-    hook->parts = *parts;
-    hook->flags = job->flags;
-    hook->stuck = 0;
-    atomic_store(&hook->replacement, job->to);
-    atomic_store(&hook->place, parts->place);
-    atomic_store(&hook->target, job->target);
-    hook->wanted = OFF;
-    atomic_store(&hook->state, OFF);
-    place = (void *)(uintptr_t)parts->place;
+    place = (void *)(uintptr_t)(live == NULL ? parts->place : atomic_load(&hook->replacement));
     if (original != NULL)
         memcpy(original, &place, sizeof place);
+    hook->parts = *parts;
+    hook->flags = job->flags;
+    atomic_store(&hook->replacement, job->to);
+    atomic_store(&hook->place, parts->place);
+    if (parts->jump_len > 0 && atomic_load(&hook->jump_at) == 0) {
+        memcpy(hook->jump, parts->jump_before, sizeof hook->jump);
+        memcpy(hook->padding, parts->jump_before, sizeof hook->padding);
+        atomic_store(&hook->jump_at, at - parts->jump_len);
+    }
+    if (live == NULL) {
+        hook->stuck = 0;
+        hook->function = job->target;
+        hook->len = job->len;
+        memcpy(hook->now, parts->before, sizeof hook->now);
+        atomic_store(&hook->target, at);
+        hook->wanted = OFF;
+        atomic_store(&hook->state, OFF);
+    }
     if (job->flags & FEDDURZAI_HOOK_DISABLED)
         return 0;
     hook->wanted = ON;
     said = change(hook);
-    if (said < 0 && !hook->stuck)
+    if (said < 0 && !hook->stuck && live != NULL)
+        uncover(hook);
+    else if (said < 0 && !hook->stuck)
         atomic_store(&hook->state, GONE);
     return said;
 }
@@ -1377,6 +1585,8 @@ int32_t feddurzai_hook_install_with(void *target, void *replacement, void *origi
     feddurzai_hook_options with = {0, 0, NULL};
     struct job job = {address_of(target), address_of(replacement), NULL, 0, 0};
     feddurzai_hook_parts parts;
+    struct hook *live;
+    size_t padding;
     uint8_t *code;
     int32_t said;
     int cancel;
@@ -1388,9 +1598,10 @@ int32_t feddurzai_hook_install_with(void *target, void *replacement, void *origi
     if (target == NULL || replacement == NULL || target == replacement)
         return FEDDURZAI_HOOK_BAD_ARGUMENT;
     /* before its file is compared with its bytes; and without the lock, since the loader has one too */
-    if (is_hooked(job.target))
+    live = hook_of(job.target);
+    if (live != NULL && !(with.flags & FEDDURZAI_HOOK_OVER))
         return FEDDURZAI_HOOK_EXISTS;
-    job.len = with.size != 0 ? with.size : (size_t)size_of(target);
+    job.len = with.size != 0 ? with.size : live != NULL ? live->len : (size_t)size_of(target);
     if (job.len == 0)
         return FEDDURZAI_HOOK_NO_SIZE;
     if (job.len > FEDDURZAI_MAX_CODE)
@@ -1398,8 +1609,9 @@ int32_t feddurzai_hook_install_with(void *target, void *replacement, void *origi
     said = enter(&cancel);
     if (said < 0)
         return said;
-    code = own_code(job.target, job.len);
-    job.code = code;
+    padding = padding_of(with.flags);
+    code = own_code(job.target - padding, padding + job.len);
+    job.code = code == NULL ? NULL : code + padding;
     job.flags = with.flags;
     said = code == NULL ? FEDDURZAI_HOOK_NO_MEMORY : install(&job, original, &parts);
     free(code);
@@ -1435,6 +1647,22 @@ int32_t feddurzai_hook_install_name(const char *name, void *replacement, void *o
     return said < 0 ? said : feddurzai_hook_install_with(target, replacement, original, &with);
 }
 
+/* removes the last of several hooks of a function: the one before it is enabled if this one was */
+static int32_t remove_last(struct hook *hook)
+{
+    struct layer last = layer_of(hook), *under = hook->under;
+    int32_t said;
+    set_layer(hook, under);
+    if (!hook->stuck)
+        hook->wanted = atomic_load(&hook->state);
+    said = change(hook);
+    if (said < 0 && !hook->stuck)
+        set_layer(hook, &last);
+    else
+        free(under);
+    return said;
+}
+
 /* notes what is wanted of a hook, or of all, and does it at once or not. `gone` removes what is then disabled */
 static int32_t want(void *target, int wanted, int at_once, int gone)
 {
@@ -1446,9 +1674,11 @@ static int32_t want(void *target, int wanted, int at_once, int gone)
     if (said < 0)
         return said;
     if (target != FEDDURZAI_HOOK_ALL) {
-        only = hook_at(address_of(target));
-        if (only == NULL || atomic_load(&only->state) == GONE)
+        only = hook_of(address_of(target));
+        if (only == NULL)
             return leave(cancel, FEDDURZAI_HOOK_MISSING);
+        if (gone && only->under != NULL)
+            return leave(cancel, remove_last(only));
     }
     while ((hook = next_hook(&walk)) != NULL)
         if (only == NULL || only == hook)
@@ -1458,7 +1688,7 @@ static int32_t want(void *target, int wanted, int at_once, int gone)
     walk = (struct walk){NULL, 0};
     while (said == 0 && gone && (hook = next_hook(&walk)) != NULL)
         if (only == NULL || only == hook)
-            atomic_store(&hook->state, GONE);
+            end_hook(hook);
     return leave(cancel, said);
 }
 
@@ -1516,7 +1746,8 @@ const char *feddurzai_hook_error_text(int32_t said)
     case FEDDURZAI_ENDS: return "control ends within the overwritten bytes, and other code follows there";
     case FEDDURZAI_ENTERED: return "control may enter the overwritten bytes after the first one";
     case FEDDURZAI_OVERLAPS: return "the trampoline would lie in the bytes of the function";
-    case FEDDURZAI_HOOK_BAD_ARGUMENT: return "target or replacement is NULL, or both are the same";
+    case FEDDURZAI_PADDING: return "the bytes in front of the function are too few, or no padding";
+    case FEDDURZAI_HOOK_BAD_ARGUMENT: return "target or replacement is NULL, or both are the same, or a disabled hook would go over an enabled one";
     case FEDDURZAI_HOOK_NO_SYMBOL: return "no loaded file has a function of this name";
     case FEDDURZAI_HOOK_NO_SIZE: return "no symbol says how long the function is: give its size";
     case FEDDURZAI_HOOK_EXISTS: return "the function has a hook";
@@ -1536,6 +1767,7 @@ const char *feddurzai_hook_error_text(int32_t said)
     case FEDDURZAI_HOOK_TRAP_BLOCKED: return "a thread blocks SIGTRAP";
     case FEDDURZAI_HOOK_SIGNAL_USED: return "the program uses the signal that asks the threads where they are";
     case FEDDURZAI_HOOK_NO_MEMORY: return "there is no memory";
+    case FEDDURZAI_HOOK_OTHER_PATCH: return "the patch would not lie exactly over that of the hook before it";
     default: return said < 0 ? "an unknown status" : "no error";
     }
 }

@@ -50,12 +50,13 @@ extern "C" {
 
 /* Statuses, besides those of feddurzai.h. feddurzai_hook_error_text has a sentence for each of either kind. */
 enum {
-    FEDDURZAI_HOOK_BAD_ARGUMENT = -1001,    /* NULL, or the replacement is the target */
+    FEDDURZAI_HOOK_BAD_ARGUMENT = -1001,    /* NULL, or the replacement is the target; or _DISABLED over an enabled hook */
     FEDDURZAI_HOOK_NO_SYMBOL = -1002,       /* no loaded file has a function of this name */
     FEDDURZAI_HOOK_NO_SIZE = -1003,         /* no symbol says how long the function is: give its size */
     FEDDURZAI_HOOK_EXISTS = -1004,          /* the function has a hook */
     FEDDURZAI_HOOK_MISSING = -1005,         /* the function has no hook */
     FEDDURZAI_HOOK_OVERLAPS = -1006,        /* the patch would overwrite a part of another hook's patch */
+    FEDDURZAI_HOOK_OTHER_PATCH = -1022,     /* over an earlier hook: the patch would not overwrite the same bytes */
     /* of the function's code */
     FEDDURZAI_HOOK_BREAKPOINT = -1007,      /* the function begins with INT3 */
     FEDDURZAI_HOOK_CALL = -1008,            /* a CALL is taken that cannot push its own return address: at */
@@ -89,16 +90,28 @@ enum {
     FEDDURZAI_HOOK_FAR = 16,            /* for tests: the trampoline is out of reach. If the replacement is, too, the
                                            patch has 14 bytes */
     FEDDURZAI_HOOK_ALONE = 32,          /* the caller says that no other thread runs the function during any change */
-    FEDDURZAI_HOOK_PLAIN_CALLS = 64     /* a CALL stays one, also the last: for a process with a shadow stack (CET),
+    FEDDURZAI_HOOK_PLAIN_CALLS = 64,    /* a CALL stays one, also the last: for a process with a shadow stack (CET),
                                            where RET to an address that no CALL pushed faults */
+    FEDDURZAI_HOOK_KEEP_ENDBR = 128,    /* an ENDBR64 at the start stays, and the trampoline begins with one: for a process
+                                           with indirect-branch tracking (CET) */
+    FEDDURZAI_HOOK_OVER = 256           /* the function may have hooks. The new one goes over them: it gets the calls, and
+                                           its original is the replacement before it. The last installed is the first
+                                           that feddurzai_hook_remove removes; enable and disable are for all of them */
 };
+
+/*
+ * To be added to the flags, too: the caller says that the `count` bytes directly in front of the function, up to 255,
+ * are padding, which belongs to no function. If the function is too small for the jump, it gets a short jump of 2 bytes
+ * to a near jump that overwrites the last 5 of them. The near jump stays there when the hook is removed.
+ */
+#define FEDDURZAI_HOOK_PADDING(count) ((uint32_t)(count) << 16)
 
 /* The longest trampoline of a hook, in bytes. */
 #define FEDDURZAI_HOOK_MAX_TRAMPOLINE 256
 
 /*
- * Both parts of a hook, and where each taken instruction is in the trampoline. Offsets of the function count from its
- * first byte, offsets of the trampoline from `place`.
+ * The parts of a hook, and where each taken instruction is in the trampoline. Offsets of the function count from its
+ * first byte, offsets of the trampoline from `place`; those of a refusal from what `kept` and `in_padding` say.
  */
 typedef struct feddurzai_hook_parts {
     feddurzai_detour_report detour;     /* as feddurzai_detour_with reports it: .taken, .form, .bytes, .jump_back, .. */
@@ -107,22 +120,31 @@ typedef struct feddurzai_hook_parts {
     uint64_t unseen_at;                 /* of a hook: the first offset from which control cannot be followed, since no
                                            instruction of the table begins there, the bytes end there or behind it, or
                                            it is an indirect jump. If none, the size */
-    uint8_t patch[FEDDURZAI_MAX_PATCH];                 /* .taken bytes */
+    uint8_t patch[FEDDURZAI_MAX_PATCH];                 /* .taken bytes, for the function's address plus `kept` */
     uint8_t before[FEDDURZAI_MAX_PATCH];                /* the function's own bytes there */
     uint8_t trampoline[FEDDURZAI_HOOK_MAX_TRAMPOLINE];  /* .bytes bytes */
     uint8_t count;                      /* the number of taken instructions, without padding */
     uint8_t taken_at[FEDDURZAI_MAX_PATCH];              /* their offsets in the function */
     uint8_t place_at[FEDDURZAI_MAX_PATCH];              /* and in the trampoline */
+    uint8_t kept;                       /* how many first bytes of the function stay: 4 of an ENDBR, or 0. Of a refusal:
+                                           `at` and `target` count from there */
+    uint8_t in_padding;                 /* 1 if a refusal is about the padding or the near jump in it: `at` and `target`
+                                           are those of feddurzai_detour_padding */
+    uint8_t jump_len;                   /* the size of the near jump in front of the function, or 0 */
+    uint8_t jump[5];                    /* that jump */
+    uint8_t jump_before[5];             /* the padding there */
 } feddurzai_hook_parts;
 
 /*
- * Makes the parts of a hook by feddurzai_detour_with, and checks what that call leaves to its caller. Writes nothing
- * but *parts, and works for code of any mode and any process.
+ * Makes the parts of a hook by feddurzai_detour_with, or by feddurzai_detour_endbr or _padding if a flag asks for it, and
+ * checks what that call leaves to its caller. Writes nothing but *parts, and works for code of any mode and any process.
  *
- *  - bits, ip, code, len, to, place: as in feddurzai_detour_with. `code` has the program's own bytes.
- *  - flags: FEDDURZAI_HOOK_ALLOW_CALLS, _ALLOW_LOOPS, _NEED_SIGHT and _PLAIN_CALLS count.
+ *  - bits, ip, code, len, to, place: as in feddurzai_detour_with. `code` has the program's own bytes; with
+ *    FEDDURZAI_HOOK_PADDING(n) those of the padding stand in the n bytes before it.
+ *  - flags: FEDDURZAI_HOOK_ALLOW_CALLS, _ALLOW_LOOPS, _NEED_SIGHT, _PLAIN_CALLS, _KEEP_ENDBR and _PADDING count. The
+ *    padding is used if the function is too small for the jump (FEDDURZAI_SMALL, _ENDS) and has no ENDBR to keep.
  *
- * Returns 0, or a status of feddurzai_detour_with, but FEDDURZAI_HOOK_LOOP for FEDDURZAI_ENTERED with the target 0,
+ * Returns 0, or a status of these calls, but FEDDURZAI_HOOK_LOOP for FEDDURZAI_ENTERED with the target 0,
  * FEDDURZAI_HOOK_CALL for FEDDURZAI_CALLS, and FEDDURZAI_HOOK_UNSEEN for FEDDURZAI_UNSEEN; then FEDDURZAI_HOOK_BREAKPOINT,
  * or _OWN_BYTES for the first taken instruction to which it applies.
  */
@@ -135,7 +157,8 @@ int32_t feddurzai_hook_make(uint32_t bits, uint64_t ip, const uint8_t *code, siz
  *  - target: the first byte of a function. Its size is that of its ELF symbol.
  *  - replacement: a function of the same type.
  *  - original: the address of a function pointer, or NULL. It receives the trampoline, before the first call can reach
- *    the replacement. Calling it is calling the original function, also after the hook is disabled or removed.
+ *    the replacement. Calling it is calling the original function, also after the hook is disabled or removed. (Of a
+ *    hook over another, FEDDURZAI_HOOK_OVER, it receives the replacement of that one.)
  *
  * The trampoline is within 2 gigabytes of the function if there is a free page, and the patch has 5 bytes. Else it has
  * 14 bytes, unless the replacement is within reach.
@@ -169,7 +192,10 @@ int32_t feddurzai_hook_install_with(void *target, void *replacement, void *origi
  */
 int32_t feddurzai_hook_find(void *library, const char *name, void **target, size_t *size);
 
-/* Removes the hook of a function, or FEDDURZAI_HOOK_ALL. The function has its own bytes again. */
+/*
+ * Removes the hook of a function, or FEDDURZAI_HOOK_ALL. The function has its own bytes again. Of several hooks of one
+ * function only the last is removed, and the one before it gets the calls; with FEDDURZAI_HOOK_ALL all are.
+ */
 int32_t feddurzai_hook_remove(void *target);
 
 /* Enables the hook of a function, or FEDDURZAI_HOOK_ALL. An enabled hook stays. */

@@ -38,6 +38,13 @@ static void check_layout(void)
     CHECK(offsetof(feddurzai_instr, rep), 100);
     CHECK(offsetof(feddurzai_instr, segment), 101);
     CHECK(offsetof(feddurzai_instr, asize), 102);
+    CHECK(sizeof(feddurzai_piece), 16);
+    CHECK(offsetof(feddurzai_piece, start), 8);
+    CHECK(offsetof(feddurzai_piece, end), 9);
+    CHECK(offsetof(feddurzai_piece, kind), 10);
+    CHECK(offsetof(feddurzai_piece, operand), 11);
+    CHECK(offsetof(feddurzai_piece, role), 12);
+    CHECK(offsetof(feddurzai_piece, width), 13);
     CHECK(sizeof(feddurzai_use), 3);
     CHECK(sizeof(feddurzai_about), 56);
     CHECK(offsetof(feddurzai_about, ip_address), 8);
@@ -594,6 +601,108 @@ static void check_texts(void)
     }
 }
 
+/* Whether pieces cover a text of `len` characters without a gap, and none is empty. */
+static int cover(const feddurzai_piece *pieces, int count, size_t len)
+{
+    size_t at = 0;
+    int k;
+    for (k = 0; k < count; k++) {
+        if (pieces[k].start != at || pieces[k].end <= at)
+            return 0;
+        at = pieces[k].end;
+    }
+    return at == len;
+}
+
+/* the pieces of texts, each with its characters and the letter of its kind, its operand, and of a number its value, width and role */
+static void check_pieces(void)
+{
+    static const struct { uint32_t bits, syntax; const char *bytes; size_t len; const char *want; } cases[] = {
+        {64, FEDDURZAI_INTEL, "\xf0\x65\x83\x05\xfe\x0f\0\0\xff", 9,
+            "lock:p  :s add:m  :s dword:k0  :s0 gs:r0 ::c0 [:c0 rel:k0  :s0 0x1007:n0=1007/8/5 ]:c0 ,:c  :s 0xffffffff:n1=ffffffff/4/1 "},
+        {64, FEDDURZAI_ATT, "\x0f\xb6\x47\xf8", 4,
+            "movzbl:m  :s -:o1 0x8:n1=fffffffffffffff8/8/2 (:c1 %rdi:r1 ):c1 ,:c  :s %eax:r0 "},
+        {64, FEDDURZAI_INTEL, "\x8b\x04\x9d\x08\0\0\0", 7,
+            "mov:m  :s eax:r0 ,:c  :s dword:k1  :s1 [:c1 rbx:r1 *:o1 4:n1=4/1/3 +:o1 0x8:n1=8/8/2 ]:c1 "},
+        {32, FEDDURZAI_MASM, "\x9a\x10\0\0\0\x08\0", 7, "callf:m  :s 8h:n0=8/2/6 ::c0 10h:n0=10/4/7 "},
+        {64, FEDDURZAI_MASM, "\xeb\x0e", 2, "jmp:m  :s 10h:n0=10/8/4 "},
+        {16, FEDDURZAI_ATT, "\x90", 1, "nop:m "},
+    };
+    static const char letters[] = "pmrknocs";
+    size_t n;
+    for (n = 0; n < sizeof cases / sizeof *cases; n++) {
+        feddurzai_instr i;
+        feddurzai_piece pieces[FEDDURZAI_MAX_PIECES];
+        char text[FEDDURZAI_MAX_TEXT], shown[1024];
+        int count, k, at = 0;
+        CHECK(feddurzai_decode(cases[n].bits, 0, (const uint8_t *)cases[n].bytes, cases[n].len, &i), (int)cases[n].len);
+        count = feddurzai_pieces(cases[n].bits, cases[n].syntax, &i, text, sizeof text, pieces, FEDDURZAI_MAX_PIECES);
+        CHECK(cover(pieces, count, strlen(text)), 1);
+        for (k = 0; k < count; k++) {
+            const feddurzai_piece *piece = &pieces[k];
+            at += sprintf(shown + at, "%.*s:%c", piece->end - piece->start, text + piece->start, letters[piece->kind]);
+            if (piece->operand != FEDDURZAI_NO_OPERAND)
+                at += sprintf(shown + at, "%d", piece->operand);
+            if (piece->kind == FEDDURZAI_PIECE_NUMBER)
+                at += sprintf(shown + at, "=%llx/%d/%d", (unsigned long long)piece->value, piece->width, piece->role);
+            else
+                CHECK(piece->value == 0 && piece->role == 0 && piece->width == 0, 1);
+            at += sprintf(shown + at, " ");
+        }
+        CHECK(strcmp(shown, cases[n].want), 0);
+
+        /* one piece too few: nothing is written */
+        memset(text, 0xaa, sizeof text);
+        memset(pieces, 0xaa, sizeof pieces);
+        CHECK(feddurzai_pieces(cases[n].bits, cases[n].syntax, &i, text, sizeof text, pieces, (size_t)count - 1), FEDDURZAI_NO_ROOM);
+        CHECK(is_untouched(text, sizeof text) && is_untouched(pieces, sizeof pieces), 1);
+    }
+}
+
+/* texts by options, as objdump prints them and otherwise; and options that are none */
+static void check_options(void)
+{
+    static const struct {
+        uint32_t syntax;
+        feddurzai_options options;
+        const char *bytes;
+        uint8_t len, offset;
+        const char *name, *want;
+    } cases[] = {
+        {FEDDURZAI_MASM, FEDDURZAI_GNU_OPTIONS, "\x48\x89\x5c\x24\x10", 5, 0, "", "mov    QWORD PTR [rsp+0x10],rbx"},
+        {FEDDURZAI_MASM, FEDDURZAI_GNU_OPTIONS, "\xe8\xfb\x0f\0\0", 5, 0, "puts@plt", "call   0x402000 <puts@plt>"},
+        {FEDDURZAI_MASM, FEDDURZAI_GNU_OPTIONS, "\x48\x8d\x3d\xbd\x2e\0\0", 7, 4, "message",
+            "lea    rdi,[rip+0x2ebd]  # 403ec4 <message+0x4>"},
+        {FEDDURZAI_ATT, FEDDURZAI_GNU_OPTIONS, "\xc1\xe8\x1f", 3, 0, "", "shr    $0x1f,%eax"},
+        {FEDDURZAI_INTEL, {0, 0, 0, 0, 0, 0, 0, FEDDURZAI_SYMBOL_INSTEAD}, "\xe8\xfb\x0f\0\0", 5, 1, "puts@plt", "call puts@plt+0x1"},
+        {FEDDURZAI_INTEL, {FEDDURZAI_UPPER, 0, 0, 0, 0, 0, 0, 0}, "\x48\x89\x5c\x24\x10", 5, 0, "", "MOV QWORD [RSP+0x10], RBX"},
+        {FEDDURZAI_INTEL, {0, FEDDURZAI_DECIMAL, FEDDURZAI_SIGNED, 0, 0, 0, 0, 0}, "\x83\xc0\x80", 3, 0, "", "add eax, -128"},
+        {FEDDURZAI_INTEL, {0, FEDDURZAI_HEX_SUFFIX, 0, 0, FEDDURZAI_SIZE_IF_NEEDED, 0, 0, 0}, "\x48\x89\x5c\x24\x1a", 5, 0, "",
+            "mov [rsp+1Ah], rbx"},
+    };
+    feddurzai_instr i;
+    char text[FEDDURZAI_MAX_TEXT];
+    size_t n, field;
+    for (n = 0; n < sizeof cases / sizeof *cases; n++) {
+        uint64_t end = 0x401000 + cases[n].len;
+        CHECK(feddurzai_decode(64, 0x401000, (const uint8_t *)cases[n].bytes, cases[n].len, &i), cases[n].len);
+        CHECK(feddurzai_format(64, cases[n].syntax, &cases[n].options, &i, end, cases[n].name, strlen(cases[n].name), cases[n].offset,
+                  text, sizeof text), (int)strlen(cases[n].want));
+        CHECK(strcmp(text, cases[n].want), 0);
+    }
+    /* each number but the column has a last choice */
+    for (field = 0; field < sizeof(feddurzai_options); field++) {
+        static const uint8_t last[] = {4, 3, 1, 1, 1, 255, 1, 3};
+        feddurzai_options options;
+        memset(&options, 0, sizeof options);
+        ((uint8_t *)&options)[field] = last[field];
+        CHECK(feddurzai_format(64, FEDDURZAI_INTEL, &options, &i, 0, "", 0, 0, text, 3), FEDDURZAI_NO_ROOM);
+        ((uint8_t *)&options)[field]++;
+        CHECK(feddurzai_format(64, FEDDURZAI_INTEL, &options, &i, 0, "", 0, 0, text, 3),
+            last[field] == 255 ? FEDDURZAI_NO_ROOM : FEDDURZAI_BAD_OPTIONS);
+    }
+}
+
 /* the names of registers, and numbers that no register has */
 static void check_register_names(void)
 {
@@ -1062,9 +1171,11 @@ static void check_refusals(void)
     feddurzai_move_report *report = malloc(sizeof *report);
     feddurzai_instr kept;
     feddurzai_touched touched;
+    feddurzai_piece pieces[FEDDURZAI_MAX_PIECES];
     char text[FEDDURZAI_MAX_TEXT];
     uint8_t bytes[FEDDURZAI_MAX_LEN];
-    int n, k;
+    uint32_t bits, syntax;
+    int n, k, count;
 
     memset(i, 0xaa, sizeof *i);
     CHECK(feddurzai_decode(17, 0, nop, 1, i), FEDDURZAI_BAD_MODE);
@@ -1166,9 +1277,13 @@ static void check_refusals(void)
         size_t j;
         for (j = 0; j < sizeof *i; j++)
             ((uint8_t *)i)[j] = (uint8_t)(rand() % 4 != 0 ? rand() % 16 : rand() % 256);
-        n = feddurzai_text((uint32_t)(rand() % 5 * 16), (uint32_t)(rand() % 4), i, text, sizeof text);
+        bits = (uint32_t)(rand() % 5 * 16);
+        syntax = (uint32_t)(rand() % 4);
+        n = feddurzai_text(bits, syntax, i, text, sizeof text);
         if (n > 160)
             CHECK(n, 160);
+        count = feddurzai_pieces(bits, syntax, i, text, sizeof text, pieces, FEDDURZAI_MAX_PIECES);
+        CHECK(n < 0 ? count == n : cover(pieces, count, (size_t)n), 1);
         n = feddurzai_encode((uint32_t)(rand() % 5 * 16), (uint64_t)rand(), i, bytes, sizeof bytes);
         if (n > 15)
             CHECK(n, 15);
@@ -1687,6 +1802,8 @@ int main(void)
     check_offsets();
     check_many();
     check_texts();
+    check_pieces();
+    check_options();
     check_register_names();
     check_jumps();
     check_kept_targets();

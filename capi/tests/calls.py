@@ -85,6 +85,54 @@ def read_instructions():
     check(str(next(f.iterate(64, 0, memoryview(code("c300"))[::2]))), "ret")
 
 
+def shown_in_pieces():
+    add = f.decode(64, 0, code("f0658305fe0f0000ff"))
+    kinds, roles = f.PieceKind, f.Role
+    words = [(piece.text, piece.kind, piece.operand) for piece in add.pieces() if piece.kind is not kinds.SPACE]
+    check(words[:4], [("lock", kinds.PREFIX, None), ("add", kinds.MNEMONIC, None), ("dword", kinds.KEYWORD, 0), ("gs", kinds.REGISTER, 0)])
+    check(words[4:8], [(":", kinds.PUNCTUATION, 0), ("[", kinds.PUNCTUATION, 0), ("rel", kinds.KEYWORD, 0), ("0x1007", kinds.NUMBER, 0)])
+    check(words[8:], [("]", kinds.PUNCTUATION, 0), (",", kinds.PUNCTUATION, None), ("0xffffffff", kinds.NUMBER, 1)])
+    numbers = [(piece.role, piece.value, piece.width) for piece in add.pieces() if piece.role is not None]
+    check(numbers, [(roles.ADDRESS, 0x1007, 8), (roles.IMMEDIATE, 0xFFFFFFFF, 4)])
+    movzx = f.decode(64, 0, code("0fb647f8"))
+    check([piece[1:] for piece in movzx.pieces(f.Style.ATT) if piece.role], [(kinds.NUMBER, 1, roles.DISPLACEMENT, (1 << 64) - 8, 8)])
+    source = 40 * b"\x90" + code("48895c2410 e8f60f0000 c3 8b049d08000000 660f1f840000000000 f3a4 d8c1 6417 cd80 ea")
+    for bits in (16, 32, 64):
+        for style in f.Style:
+            for item in f.iterate(bits, 0x1000, source):
+                if item.kind is f.ItemKind.INSTRUCTION:
+                    check("".join(piece.text for piece in item.pieces(style)), item.text(style))
+                    check(all(piece.text for piece in item.pieces(style)), True)
+    made = f.Instr(f.code_of("nop", "NF3 90"))
+    check([str(piece) for piece in made.pieces(bits=64)], ["nop"])
+    raised(ValueError, made.pieces)
+    refused(f.Reason.BAD_SYNTAX, add.pieces, 3)
+    refused(f.Reason.BAD_MODE, add.pieces, f.Style.ATT, 17)
+
+
+def shown_by_options():
+    lea, call = f.decode(64, 0x401000, code("488d3dbd2e0000")), f.decode(64, 0x401000, code("e8fb0f0000"))
+    check(lea.format(), str(lea))
+    check([item.format(f.GNU, syntax=f.Style.ATT) for item in (lea, call)], ["lea    0x2ebd(%rip),%rdi", "call   0x402000"])
+    names = {0x402000: "puts@plt", 0x403EC4: ("message", 4)}
+    check(call.format(f.GNU, names, f.Style.MASM), "call   0x402000 <puts@plt>")
+    check(call.format(symbols=names.get), "call 0x402000 <puts@plt>")
+    check(lea.format(f.Options(symbol_place=f.SymbolPlace.INSTEAD), names), "lea rdi, [rel message+0x4]")
+    check(lea.format(f.Options(rip_distance=True), end=0x403EC0), "lea rdi, [rip+0x4]")
+    long = "n" * 5000
+    check(call.format(symbols={0x402000: long}), f"call 0x402000 <{long}>")
+    asked = []
+    check(f.decode(64, 0, code("83c005")).format(symbols=asked.append), "add eax, 0x5")
+    check(asked, [])
+    check(call.format(symbols=asked.append), "call 0x402000")
+    check(asked, [0x402000])
+    refused(f.Reason.BAD_OPTIONS, call.format, f.Options(letters=9))
+    refused(f.Reason.BAD_SYNTAX, call.format, syntax=3)
+    raised(ValueError, call.format, f.Options(operand_column=256))
+    raised(ValueError, f.Instr(f.Code.RET).format)
+    raised(TypeError, call.format, symbols={0x402000: b"main"})
+
+
 def told_what_it_does():
     about = f.info(f.decode(64, 0x1000, code("48895c2410")))
     check(about.access, (f.Access.WRITE, f.Access.READ))
@@ -743,6 +791,8 @@ def threads_at_once():
 
 for test in (
     read_instructions,
+    shown_in_pieces,
+    shown_by_options,
     told_what_it_does,
     told_what_it_touches,
     effects_differ_in_displacements,

@@ -99,6 +99,27 @@ static void decoded(void)
     CHECK_TEXT("movq %rbx, 0x10(%rsp)");
 }
 
+static void in_pieces(void)
+{
+    feddurzai_piece pieces[FEDDURZAI_MAX_PIECES];
+    feddurzai_decode(64, 0x1000, (const uint8_t *)"\x74\x10", 2, &instr);       // je 0x1012
+    int32_t count = feddurzai_pieces(64, FEDDURZAI_INTEL, &instr, text, sizeof text, pieces, FEDDURZAI_MAX_PIECES);
+    if (count == 3 && pieces[2].role == FEDDURZAI_ROLE_TARGET)                  // the mnemonic, a space, the number
+        printf("to %llx\n", (unsigned long long)pieces[2].value);
+    CHECK(count, 3);
+    CHECK(pieces[2].value, 0x1012);
+}
+
+static void by_options(void)
+{
+    static const feddurzai_options gnu = FEDDURZAI_GNU_OPTIONS;
+    feddurzai_decode(64, 0x1000, (const uint8_t *)"\xe8\xfb\x0f\x00\x00", 5, &instr);
+    len = feddurzai_format(64, FEDDURZAI_MASM, &gnu, &instr, 0x1005, "puts@plt", 8, 0, text, sizeof text);
+    // call   0x2000 <puts@plt>
+    CHECK(len, 24);
+    CHECK_TEXT("call   0x2000 <puts@plt>");
+}
+
 static void decoded_many(void)
 {
     size_t count;
@@ -358,6 +379,8 @@ int main(void)
     causes();
     made();
     decoded();
+    in_pieces();
+    by_options();
     decoded_many();
     printed_and_read();
     analysed();

@@ -86,10 +86,16 @@ int main(int count, char **words)
     place = known("", "trampolines")->st_value;
     while ((symbol = symbol_of("hooked_", 1, symbol, &whole)) != NULL) {
         const char *name = whole + strlen("hooked_");
-        const Elf32_Sym *target = known("", name);
-        uint8_t *original = bytes_at(known("original_", name)->st_value);
+        const Elf32_Sym *target;
+        uint8_t *original;
         feddurzai_hook_parts parts;
-        int32_t said = feddurzai_hook_make(32, target->st_value, bytes_at(target->st_value), target->st_size, symbol->st_value, place, flags,
+        int32_t said;
+        /* a part of a function that the compiler moved away */
+        if (strchr(name, '.') != NULL)
+            continue;
+        target = known("", name);
+        original = bytes_at(known("original_", name)->st_value);
+        said = feddurzai_hook_make(32, target->st_value, bytes_at(target->st_value), target->st_size, symbol->st_value, place, flags,
             &parts);
         if (said < 0) {
             printf("%s: refused: %s\n", name, feddurzai_hook_error_text(said));

@@ -47,6 +47,7 @@ static const uint32_t firsts[2] = {0, 2};
 static size_t count;
 static uint8_t out[SPARE], patch[6];
 static char text[FEDDURZAI_MAX_TEXT];
+static feddurzai_piece pieces[FEDDURZAI_MAX_PIECES];
 
 static void fill(void)
 {
@@ -75,6 +76,7 @@ static void fill(void)
     memset(out, 0xaa, sizeof out);
     memset(patch, 0xaa, sizeof patch);
     memset(text, 0xaa, sizeof text);
+    memset(pieces, 0xaa, sizeof pieces);
 }
 
 static int nothing_was_written(void)
@@ -88,7 +90,7 @@ static int nothing_was_written(void)
         && is_untouched(starts, sizeof starts) && is_untouched(leaders, sizeof leaders) && is_untouched(kinds, sizeof kinds)
         && is_untouched(&access, sizeof access)
         && is_untouched(&count, sizeof count) && is_untouched(out, sizeof out) && is_untouched(patch, sizeof patch)
-        && is_untouched(text, sizeof text);
+        && is_untouched(text, sizeof text) && is_untouched(pieces, sizeof pieces);
 }
 
 /* NULL where there is something to point to */
@@ -123,6 +125,14 @@ static void check_nulls(void)
     CHECK(feddurzai_text(64, FEDDURZAI_INTEL, &instr, NULL, sizeof text), FEDDURZAI_NULL);
     CHECK(feddurzai_text(64, FEDDURZAI_INTEL, NULL, NULL, 0), FEDDURZAI_NULL);
     CHECK(feddurzai_text(64, FEDDURZAI_INTEL, NULL, NULL, sizeof text), FEDDURZAI_NULL);
+
+    CHECK(feddurzai_pieces(64, FEDDURZAI_INTEL, NULL, text, sizeof text, pieces, 40), FEDDURZAI_NULL);
+    CHECK(feddurzai_pieces(64, FEDDURZAI_INTEL, &instr, NULL, sizeof text, pieces, 40), FEDDURZAI_NULL);
+    CHECK(feddurzai_pieces(64, FEDDURZAI_INTEL, &instr, text, sizeof text, NULL, 40), FEDDURZAI_NULL);
+    CHECK(feddurzai_pieces(64, FEDDURZAI_INTEL, NULL, NULL, 0, NULL, 0), FEDDURZAI_NULL);
+    CHECK(feddurzai_format(64, FEDDURZAI_INTEL, NULL, NULL, 0, NULL, 0, 0, text, sizeof text), FEDDURZAI_NULL);
+    CHECK(feddurzai_format(64, FEDDURZAI_INTEL, NULL, &instr, 0, NULL, 1, 0, text, sizeof text), FEDDURZAI_NULL);
+    CHECK(feddurzai_format(64, FEDDURZAI_INTEL, NULL, &instr, 0, "x", 1, 0, NULL, sizeof text), FEDDURZAI_NULL);
 
     CHECK(feddurzai_encode(64, 0, NULL, out, sizeof out), FEDDURZAI_NULL);
     CHECK(feddurzai_encode(64, 0, &instr, NULL, sizeof out), FEDDURZAI_NULL);
@@ -259,6 +269,7 @@ static void check_nulls(void)
     CHECK(feddurzai_decode_many(17, 0, code, 4, NULL, 1, &count), FEDDURZAI_NULL);
     CHECK(feddurzai_line(17, 9, 0, NULL, 4, NULL, text, sizeof text), FEDDURZAI_NULL);
     CHECK(feddurzai_text(17, 9, NULL, text, sizeof text), FEDDURZAI_NULL);
+    CHECK(feddurzai_pieces(17, 9, &instr, text, sizeof text, NULL, 1), FEDDURZAI_NULL);
     CHECK(feddurzai_encode(17, 0, NULL, out, sizeof out), FEDDURZAI_NULL);
     CHECK(feddurzai_encoded_len(17, 0, NULL), FEDDURZAI_NULL);
     CHECK(feddurzai_assemble(17, 0, NULL, 1, out, sizeof out), FEDDURZAI_NULL);
@@ -295,6 +306,9 @@ static void check_empty(void)
     CHECK(feddurzai_line(64, FEDDURZAI_INTEL, 0, mov, 5, NULL, NULL, 0), FEDDURZAI_NO_ROOM);
     CHECK(feddurzai_line_text(64, FEDDURZAI_INTEL, 0, mov, 5, NULL, 0), FEDDURZAI_NO_ROOM);
     CHECK(feddurzai_text(64, FEDDURZAI_INTEL, &instr, NULL, 0), FEDDURZAI_NO_ROOM);
+    CHECK(feddurzai_pieces(64, FEDDURZAI_INTEL, &instr, NULL, 0, pieces, 40), FEDDURZAI_NO_ROOM);
+    CHECK(feddurzai_pieces(64, FEDDURZAI_INTEL, &instr, text, sizeof text, NULL, 0), FEDDURZAI_NO_ROOM);
+    CHECK(feddurzai_format(64, FEDDURZAI_INTEL, NULL, &instr, 0, NULL, 0, 0, NULL, 0), FEDDURZAI_NO_ROOM);
     CHECK(feddurzai_encode(64, 0, &instr, NULL, 0), FEDDURZAI_NO_ROOM);
     CHECK(feddurzai_assemble(64, 0, NULL, 0, NULL, 0), FEDDURZAI_NO_TEXT);
     CHECK(feddurzai_assemble(64, 0, "nop", 3, NULL, 0), FEDDURZAI_NO_ROOM);
@@ -371,6 +385,8 @@ static void check_zeros(void)
     CHECK(feddurzai_line(0, 0, 0, NULL, 0, NULL, NULL, 0), FEDDURZAI_BAD_MODE);
     CHECK(feddurzai_line_text(0, 0, 0, NULL, 0, NULL, 0), FEDDURZAI_BAD_MODE);
     CHECK(feddurzai_text(0, 0, &zeros, NULL, 0), FEDDURZAI_BAD_MODE);
+    CHECK(feddurzai_pieces(0, 0, &zeros, NULL, 0, NULL, 0), FEDDURZAI_BAD_MODE);
+    CHECK(feddurzai_format(0, 0, NULL, &zeros, 0, NULL, 0, 0, NULL, 0), FEDDURZAI_BAD_MODE);
     CHECK(feddurzai_encode(0, 0, &zeros, NULL, 0), FEDDURZAI_BAD_MODE);
     CHECK(feddurzai_encoded_len(0, 0, &zeros), FEDDURZAI_BAD_MODE);
     CHECK(feddurzai_assemble(0, 0, NULL, 0, NULL, 0), FEDDURZAI_BAD_MODE);
@@ -393,6 +409,7 @@ static void check_zeros(void)
     CHECK(feddurzai_info(&zeros, &about), FEDDURZAI_BAD_FORM);
     CHECK(feddurzai_effects(64, &zeros, &touched), FEDDURZAI_BAD_FORM);
     CHECK(feddurzai_text(64, 0, &zeros, text, sizeof text), FEDDURZAI_BAD_FORM);
+    CHECK(feddurzai_pieces(64, 0, &zeros, text, sizeof text, pieces, 40), FEDDURZAI_BAD_FORM);
     CHECK(FEDDURZAI_CAUSE(feddurzai_encode(64, 0, &zeros, out, sizeof out)), FEDDURZAI_CAUSE_KIND);
     CHECK(nothing_was_written(), 1);
     CHECK(feddurzai_move(0, 0, NULL, 0, 0, NULL, 0, NULL, 0, &report), FEDDURZAI_BAD_MODE);
@@ -425,13 +442,17 @@ static uint8_t *room_of(size_t room)
     return bytes;
 }
 
-enum writer { TEXT, LINE, LINE_TEXT, ENCODE, ASSEMBLE, JUMP, REGISTER_TEXT, SEGMENT_TEXT, FEATURE_NAME, NAME, NOTATION, ROW_OPERAND };
+enum writer { TEXT, PIECES, FORMAT, LINE, LINE_TEXT, ENCODE, ASSEMBLE, JUMP, REGISTER_TEXT, SEGMENT_TEXT, FEATURE_NAME, NAME, NOTATION, ROW_OPERAND };
 
 static int32_t written(enum writer writer, uint8_t *bytes, size_t room)
 {
     switch (writer) {
     case TEXT:
         return feddurzai_text(64, FEDDURZAI_INTEL, &instr, (char *)bytes, room);
+    case PIECES:
+        return feddurzai_pieces(64, FEDDURZAI_INTEL, &instr, (char *)bytes, room, pieces, FEDDURZAI_MAX_PIECES);
+    case FORMAT:
+        return feddurzai_format(64, FEDDURZAI_INTEL, NULL, &instr, 0, NULL, 0, 0, (char *)bytes, room);
     case LINE:
         return feddurzai_line(64, FEDDURZAI_INTEL, 0, mov, sizeof mov, &unread, (char *)bytes, room);
     case LINE_TEXT:
@@ -566,6 +587,8 @@ int main(void)
     check_empty();
     check_zeros();
     check_rooms_of(TEXT, mov_text, sizeof mov_text, sizeof mov_text - 1);
+    check_rooms_of(PIECES, mov_text, sizeof mov_text, 12);
+    check_rooms_of(FORMAT, mov_text, sizeof mov_text, sizeof mov_text - 1);
     check_rooms_of(LINE, mov_text, sizeof mov_text, sizeof mov);
     check_rooms_of(LINE_TEXT, mov_text, sizeof mov_text, sizeof mov);
     check_rooms_of(ENCODE, mov, sizeof mov, sizeof mov);

@@ -8,7 +8,7 @@
     0x401005 e8f60f0000 call 0x402000
     0x40100a c3 ret
 
-`decode` decodes one instruction, and `iterate` all instructions of some bytes. An `Instr` has an address, bytes, operands and a text;
+`decode` decodes one instruction, and `iterate` all instructions of some bytes. An `Instr` has an address, bytes, operands, a text and its pieces;
 `info` reports its flow and operand access, and `effects` everything that it touches. `Instr(code, operands..)` constructs one, and `encode`
 returns its bytes. `move` relocates code, `flow` follows control, `detour` makes both parts of a hook, and `StepSlots` makes slots for displaced
 single stepping. `Code` has the codes of common instructions.
@@ -51,32 +51,39 @@ from ._calls import (
 from ._codes import Code
 from ._detours import Detour, MovedStart, detour, detour_len
 from ._effects import Effects, MemoryUse, RegisterUse
+from ._format import GNU, Options
 from ._items import BadByte, Instr, Item, Rest
 from ._native import INTERFACE, MAX_CODE, MAX_FLOW, MAX_STEP
 from ._numbers import (
     Access,
     Cause,
     DetourForm,
+    Digits,
     Flags,
     Flow,
     Form,
     ItemKind,
     Jump,
+    Letters,
     OperandKind,
+    PieceKind,
     Reason,
     Reference,
     RegClass,
     Repeat,
+    Role,
     Segment,
     Sight,
     Start,
     StartRule,
     Style,
+    SymbolPlace,
     Touch,
     UnlistedKind,
 )
 from ._offsets import Offsets, Part, offsets
 from ._operands import Far, Immediate, Memory, Near, Operand, Register, register, registers
+from ._pieces import Piece
 from ._refusal import BlocksReport, DetourReport, InvalidCode, MoveReport, Refusal, StepReport, TooShort
 from ._region import Live, Region
 from ._sight import Passage, View, look
@@ -95,11 +102,13 @@ __all__ = [
     "Detour",
     "DetourForm",
     "DetourReport",
+    "Digits",
     "Effects",
     "Far",
     "Flags",
     "Flow",
     "Form",
+    "GNU",
     "INTERFACE",
     "Immediate",
     "Instr",
@@ -107,6 +116,7 @@ __all__ = [
     "Item",
     "ItemKind",
     "Jump",
+    "Letters",
     "Live",
     "MAX_CODE",
     "MAX_FLOW",
@@ -122,8 +132,11 @@ __all__ = [
     "Offsets",
     "Operand",
     "OperandKind",
+    "Options",
     "Part",
     "Passage",
+    "Piece",
+    "PieceKind",
     "Reached",
     "Reason",
     "Reference",
@@ -134,6 +147,7 @@ __all__ = [
     "RegisterUse",
     "Repeat",
     "Rest",
+    "Role",
     "RowOperand",
     "Segment",
     "Shape",
@@ -146,6 +160,7 @@ __all__ = [
     "StepSlot",
     "StepSlots",
     "Style",
+    "SymbolPlace",
     "TooShort",
     "Touch",
     "Unlisted",
@@ -188,6 +203,7 @@ __all__ = [
 
 # public names belong to this module, whichever file defines them
 for _name in __all__:
-    if getattr(globals()[_name], "__module__", "").startswith(__name__):
-        globals()[_name].__module__ = __name__
-del _name
+    _public = globals()[_name]
+    if callable(_public) and getattr(_public, "__module__", "").startswith(__name__):
+        _public.__module__ = __name__
+del _name, _public

@@ -164,8 +164,8 @@ def _keeping_endbr(function: _Function, entries: Iterable[int], rules: int) -> D
     if said < 0:
         raise refusal_of(said)
     made = _seen(_detour_of(patch.raw, trampoline.raw, report), moved.raw, fields)
-    parts = (None if at is None else at + kept for at in (made.jump_back, made.slots, made.relay))
-    shown = Detour(made.patch, made.trampoline, made.form, *parts, report)
+    jump_back, slots, relay = (None if at is None else at + kept for at in (made.jump_back, made.slots, made.relay))
+    shown = Detour(made.patch, made.trampoline, made.form, jump_back, slots, relay, report)
     shown.moved = tuple(MovedStart(start + kept, place + kept) for start, place in made.moved or ())
     shown.view = None if made.view is None else shifted(made.view, kept)
     shown.call = None if made.call is None else made.call + kept

@@ -8,8 +8,10 @@ from typing import Any, Optional, Tuple
 
 from . import _checks
 from ._effects import Effects, effects_of, effects_of_decoded
+from ._format import DEFAULTS, Options, Symbols, formatted
 from ._numbers import ItemKind, Repeat, Segment, Style
 from ._operands import ABSENT, OPERANDS, Memory, Operand, operand_of
+from ._pieces import Piece, pieces_of
 from ._info import About, encode_of, info_of, known_text, name_of
 
 # feddurzai_instr: four operands, code, len, lock, rep, segment, asize
@@ -262,15 +264,51 @@ class Instr(Item):
         >>> decode(64, 0, bytes.fromhex("83c005")).text(Style.ATT)
         'add $0x5, %eax'
         """
+        if bits is None and self.bits is not None and type(syntax) is Style:
+            return known_text(self.bits, self._struct, syntax)
+        return known_text(*self._shown(syntax, bits, "text"))
+
+    def pieces(self, syntax: int = Style.INTEL, bits: Optional[int] = None) -> Tuple[Piece, ...]:
+        """The pieces of its text in a `Style`: see `Piece`. Their texts joined are `text(..)`. Arguments and refusals are those of `text`.
+
+        >>> [(piece.text, piece.operand) for piece in decode(64, 0, bytes.fromhex("83c005")).pieces(Style.ATT)]
+        [('add', None), (' ', None), ('$', 1), ('0x5', 1), (',', None), (' ', None), ('%eax', 0)]
+        """
+        return pieces_of(*self._shown(syntax, bits, "pieces"))
+
+    def format(
+        self,
+        options: Options = DEFAULTS,
+        symbols: Optional[Symbols] = None,
+        syntax: int = Style.INTEL,
+        bits: Optional[int] = None,
+        end: Optional[int] = None,
+    ) -> str:
+        """Its text by `Options`, with the symbol of the address that it names: its near target, or the address of its memory operand.
+
+        `symbols` maps an address to a name, or to a name and how far the address lies after it: a dict, or a function that returns None where
+        there is no symbol. `end` is the address of the next instruction; a decoded one has it. It counts with `rip_distance` alone.
+
+        >>> lea = decode(64, 0x401000, bytes.fromhex("488d3dbd2e0000"))
+        >>> lea.format(GNU, {0x403EC4: ("message", 4)}, Style.MASM)
+        'lea    rdi,[rip+0x2ebd]  # 403ec4 <message+0x4>'
+        """
+        shown = self._shown(syntax, bits, "format")
+        if end is None:
+            end = 0 if self.address is None else (self.address + len(self.bytes)) & (1 << 64) - 1
+        return formatted(shown, pieces_of(*shown), options, symbols, _checks.number("end", end))
+
+    def _shown(self, syntax: int, bits: Optional[int], call: str) -> Tuple[int, Bytes, int]:
+        """The mode, the struct and the style for a text."""
         if bits is not None:
             bits = _checks.number("bits", bits, _checks.U32)
         elif self.bits is None:
-            raise ValueError("a constructed instruction has no mode: pass it, as in text(bits=64)")
+            raise ValueError(f"a constructed instruction has no mode: pass it, as in {call}(bits=64)")
         else:
             bits = self.bits
         if type(syntax) is not Style:
             syntax = _checks.number("syntax", syntax, _checks.U32)
-        return known_text(bits, self._struct, syntax)
+        return bits, self._struct, syntax
 
     def encode(self, bits: int, ip: int) -> Bytes:
         """Returns the shortest bytes that decode to it at the address `ip`: see the function `encode`.

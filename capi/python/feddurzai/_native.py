@@ -7,11 +7,12 @@ import os
 from typing import Any, Callable, List, Tuple, Type
 
 # the interface of the header for which this package is written
-INTERFACE = 8
+INTERFACE = 9
 
 MAX_LEN = 15
 MAX_JUMP = 16
 MAX_TEXT = 161
+MAX_PIECES = 40
 MAX_CODE = 1 << 20
 MAX_FLOW = 1 << 24
 MAX_MOVED = 1 << 16
@@ -106,6 +107,8 @@ measure = _call(_short, "measure", _u32, _at, _size, _at)
 line = _call(_short, "line", _u32, _u32, _u64, _at, _size, _at, _at, _size)
 text = _call(_short, "text", _u32, _u32, _at, _at, _size)
 bare_text = _bare(_short, "text")
+bare_pieces = _bare(_short, "pieces")
+format_ = _call(_short, "format", _u32, _u32, _at, _at, _u64, _at, _size, _u64, _at, _size)
 encode = _call(_short, "encode", _u32, _u64, _at, _at, _size)
 encoded_len = _call(_short, "encoded_len", _u32, _u64, _at)
 assemble = _call(_short, "assemble", _u32, _u64, _at, _size, _at, _size)

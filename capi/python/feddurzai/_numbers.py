@@ -55,6 +55,86 @@ class Style(Named):
     MASM = 2
 
 
+class PieceKind(Named):
+    """What a piece of a text is.
+
+    PREFIX is a word before the mnemonic. REGISTER is also a segment before an address; in AT&T style it has its `%`. KEYWORD is any other word of
+    an operand, such as `dword`. OPERATOR is `+`, `-` or `*` of an address, and in AT&T style `$` and `*` before an operand. PUNCTUATION is a comma,
+    a colon, a bracket or a parenthesis.
+
+    >>> [piece.kind.name for piece in decode(64, 0, bytes.fromhex("83c005")).pieces()]
+    ['MNEMONIC', 'SPACE', 'REGISTER', 'PUNCTUATION', 'SPACE', 'NUMBER']
+    """
+
+    PREFIX = 0
+    MNEMONIC = 1
+    REGISTER = 2
+    KEYWORD = 3
+    NUMBER = 4
+    OPERATOR = 5
+    PUNCTUATION = 6
+    SPACE = 7
+
+
+class Role(Named):
+    """What a number of a text is there for.
+
+    DISPLACEMENT stands beside a base or an index. TARGET is that of a near branch. ADDRESS is that of an operand with neither base nor index, or at
+    RIP or EIP. SELECTOR and OFFSET are the parts of a far pointer.
+
+    >>> decode(64, 0x1000, bytes.fromhex("7410")).pieces()[-1].role.name
+    'TARGET'
+    """
+
+    IMMEDIATE = 1
+    DISPLACEMENT = 2
+    SCALE = 3
+    TARGET = 4
+    ADDRESS = 5
+    SELECTOR = 6
+    OFFSET = 7
+
+
+class Letters(Named):
+    """Which words of a text are in upper case: see `Options`.
+
+    >>> decode(64, 0, bytes.fromhex("c3")).format(Options(letters=Letters.UPPER_NAMES))
+    'RET'
+    """
+
+    LOWER = 0
+    UPPER_NAMES = 1
+    UPPER_REGISTERS = 2
+    UPPER_KEYWORDS = 3
+    UPPER = 4
+
+
+class Digits(Named):
+    """How numbers of a text are written: see `Options`. STYLE writes them as the style does, the others as `0x2a`, `2Ah` and `42`.
+
+    >>> decode(64, 0, bytes.fromhex("83c02a")).format(Options(digits=Digits.HEX_SUFFIX))
+    'add eax, 2Ah'
+    """
+
+    STYLE = 0
+    HEX_PREFIX = 1
+    HEX_SUFFIX = 2
+    DECIMAL = 3
+
+
+class SymbolPlace(Named):
+    """Where the symbol of a target or an address is written: see `Options`. GNU writes that of a target BEHIND, and that of memory as a COMMENT.
+
+    >>> decode(64, 0x1000, bytes.fromhex("e8fb0f0000")).format(Options(symbol_place=SymbolPlace.INSTEAD), {0x2000: "main"})
+    'call main'
+    """
+
+    BEHIND = 0
+    INSTEAD = 1
+    COMMENT = 2
+    GNU = 3
+
+
 class Flow(Named):
     """Where control goes after an instruction.
 
@@ -368,6 +448,7 @@ class Reason(Named):
     OVERLAPS = -29
     CALLS = -30
     PADDING = -31
+    BAD_OPTIONS = -32
     NO_ENCODING = -256
 
 

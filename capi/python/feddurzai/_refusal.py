@@ -39,6 +39,7 @@ _REASONS = {
     Reason.OVERLAPS: "the trampoline would lie in the bytes of the function",
     Reason.CALLS: "a moved call would hand an address in the trampoline to what it calls",
     Reason.PADDING: "the padding in front of the function cannot be used",
+    Reason.BAD_OPTIONS: "a number of the options names no choice",
 }
 _SIGHT_ENDS = {
     Sight.NOT_READ: "no instruction of the table begins",

@@ -3,9 +3,11 @@
 use crate::error::{taken, Error};
 use crate::instruction::Instruction;
 use crate::mnemonic::Mnemonic;
-use crate::operand::OpKind;
 use crate::register::{Register, RegisterClass};
-use crate::sys::{Library, Text, BAD};
+use crate::sys::{
+    Library, Piece, Text, BAD, MAX_PIECES, PIECE_KEYWORD, PIECE_MNEMONIC, PIECE_NUMBER, PIECE_OPERATOR, PIECE_PREFIX,
+    PIECE_PUNCTUATION, PIECE_REGISTER, ROLE_ADDRESS, ROLE_OFFSET, ROLE_SELECTOR, ROLE_TARGET,
+};
 
 #[cfg(feature = "alloc")]
 use alloc::string::String;
@@ -303,18 +305,18 @@ pub trait Formatter {
             text.set_bad();
         }
         if !output.write_whole(text.as_str()) {
-            write_parts(self.syntax(), instruction, output, |_| true);
+            write_parts(self.syntax(), instruction, output, Wanted::All);
         }
     }
 
     /// Writes the prefix words and the mnemonic.
     fn format_mnemonic(&mut self, instruction: &Instruction, output: &mut dyn FormatterOutput) {
-        write_parts(self.syntax(), instruction, output, |part| part.is_name);
+        write_parts(self.syntax(), instruction, output, Wanted::Name);
     }
 
     /// Writes the operands.
     fn format_all_operands(&mut self, instruction: &Instruction, output: &mut dyn FormatterOutput) {
-        write_parts(self.syntax(), instruction, output, |part| part.is_operand);
+        write_parts(self.syntax(), instruction, output, Wanted::Operands);
     }
 
     /// The name of a register, empty for [`Register::None`].
@@ -379,170 +381,109 @@ formatters! {
 /// ```
 pub type NasmFormatter = IntelFormatter;
 
-/// A part of a text.
-struct Part<'a> {
-    text: &'a str,
-    kind: FormatterTextKind,
-    register: Register,
-    value: u64,
-    is_name: bool,
-    is_operand: bool,
+/// The parts of a text that are written.
+#[derive(Clone, Copy, PartialEq, Eq)]
+enum Wanted {
+    All,
+    /// The prefix words and the mnemonic.
+    Name,
+    /// The operands.
+    Operands,
 }
 
-impl Part<'_> {
-    /// A part without text, of the name or of the operands.
-    fn new(is_operand: bool) -> Self {
-        let kind = FormatterTextKind::Text;
-        Part { text: "", kind, register: Register::None, value: 0, is_name: !is_operand, is_operand }
+/// Where a part of a text stands.
+#[derive(Clone, Copy, PartialEq, Eq)]
+enum Place {
+    /// In the prefix words, the mnemonic, or the spaces between them.
+    Name,
+    /// Between the mnemonic and the operands.
+    Between,
+    /// In the operands.
+    Operands,
+}
+
+impl Wanted {
+    fn has(self, place: Place) -> bool {
+        match self {
+            Wanted::All => true,
+            Wanted::Name => place == Place::Name,
+            Wanted::Operands => place == Place::Operands,
+        }
     }
 }
 
 /// Writes those parts of the text of an instruction that are wanted.
-fn write_parts(
-    syntax: FormatterSyntax,
-    instruction: &Instruction,
-    output: &mut dyn FormatterOutput,
-    wants: impl Fn(&Part<'_>) -> bool,
-) {
-    let text = match instruction.text(syntax) {
-        Ok(text) => text,
+fn write_parts(syntax: FormatterSyntax, instruction: &Instruction, output: &mut dyn FormatterOutput, wanted: Wanted) {
+    let mut text = Text::new();
+    let mut pieces = [Piece::default(); MAX_PIECES];
+    let (bits, syntax) = (instruction.bitness(), syntax as u32);
+    let found = Library::get().map(|library| library.pieces(bits, syntax, &instruction.raw, &mut text, &mut pieces));
+    let count = match found.and_then(taken) {
+        Ok(count) => count,
         Err(_) => {
-            if wants(&Part::new(false)) {
+            if wanted.has(Place::Name) {
                 output.write_mnemonic(instruction, BAD);
             }
             return;
         }
     };
-    let mut splitter = Splitter { rest: text.as_str(), syntax, instruction, is_named: false, is_operand: false };
-    while let Some(part) = splitter.next_part() {
-        if !wants(&part) {
-            continue;
+    let (mut place, mut is_negative) = (Place::Name, false);
+    for piece in pieces.iter().take(count) {
+        let part = text.as_str().get(usize::from(piece.start)..usize::from(piece.end)).unwrap_or("");
+        if wanted.has(place) {
+            write_piece(instruction, output, piece, part, is_negative);
         }
-        match part.kind {
-            FormatterTextKind::Prefix => output.write_prefix(instruction, part.text),
-            FormatterTextKind::Mnemonic => output.write_mnemonic(instruction, part.text),
-            FormatterTextKind::Register => output.write_register(instruction, part.text, part.register),
-            FormatterTextKind::Number
-            | FormatterTextKind::SelectorValue
-            | FormatterTextKind::LabelAddress
-            | FormatterTextKind::FunctionAddress
-            | FormatterTextKind::Data => output.write_number(instruction, part.text, part.value, part.kind),
-            kind => output.write(part.text, kind),
-        }
-    }
-}
-
-/// The words before a mnemonic.
-const PREFIXES: [&str; 15] =
-    ["lock", "rep", "repne", "es", "cs", "ss", "ds", "fs", "gs", "a16", "a32", "a64", "o16", "o32", "o64"];
-
-/// Splits a text into its parts.
-struct Splitter<'a> {
-    rest: &'a str,
-    syntax: FormatterSyntax,
-    instruction: &'a Instruction,
-    is_named: bool,
-    is_operand: bool,
-}
-
-impl<'a> Splitter<'a> {
-    /// Takes a number of bytes from the front.
-    fn take(&mut self, len: usize) -> &'a str {
-        let taken = self.rest.get(..len).unwrap_or(self.rest);
-        self.rest = self.rest.get(taken.len()..).unwrap_or("");
-        taken
-    }
-
-    fn next_part(&mut self) -> Option<Part<'a>> {
-        let first = self.rest.bytes().next()?;
-        let mut part = Part::new(self.is_operand);
-        match first {
-            b' ' => {
-                part.text = self.take(1);
-                // the space after the mnemonic is neither
-                part.is_name = !self.is_named;
-                self.is_operand = self.is_named;
-            }
-            b'+' | b'-' | b'*' | b'$' => {
-                part.text = self.take(1);
-                part.kind = FormatterTextKind::Operator;
-            }
-            b'%' => self.take_word(&mut part, 1),
-            _ if first.is_ascii_alphanumeric() => self.take_word(&mut part, 0),
-            _ => {
-                part.text = self.take(1);
-                part.kind = FormatterTextKind::Punctuation;
-            }
-        }
-        Some(part)
-    }
-
-    /// Takes a word, after `skip` bytes that belong to it.
-    fn take_word(&mut self, part: &mut Part<'a>, skip: usize) {
-        let is_end = |byte: u8| !byte.is_ascii_alphanumeric();
-        let after = self.rest.get(skip..).unwrap_or("");
-        let len = after.bytes().position(is_end).unwrap_or(after.len());
-        let word = after.get(..len).unwrap_or("");
-        if !self.is_named {
-            self.is_named = !PREFIXES.contains(&word);
-            part.kind = if self.is_named { FormatterTextKind::Mnemonic } else { FormatterTextKind::Prefix };
-        } else if word.starts_with(|first: char| first.is_ascii_digit()) {
-            part.value = self.value_of(word);
-            part.kind = self.kind_of_number(part.value);
-        } else if let (true, Some(number)) = (word == "st", stack_number(after)) {
-            part.register = Register::of(RegisterClass::St as u8, number);
-            part.kind = FormatterTextKind::Register;
-            part.text = self.take(skip + "st(0)".len());
-            return;
-        } else if let Some(register) = Register::from_name(word) {
-            part.register = register;
-            part.kind = FormatterTextKind::Register;
-        } else {
-            part.kind = FormatterTextKind::Keyword;
-        }
-        part.text = self.take(skip + len);
-    }
-
-    /// The value of a number of the style.
-    fn value_of(&self, word: &str) -> u64 {
-        let digits = match self.syntax {
-            FormatterSyntax::Masm => word.strip_suffix('h'),
-            _ => word.strip_prefix("0x"),
+        is_negative = part == "-";
+        // one space stands between the mnemonic and the operands
+        place = match place {
+            Place::Name if piece.kind == PIECE_MNEMONIC => Place::Between,
+            Place::Name => Place::Name,
+            Place::Between | Place::Operands => Place::Operands,
         };
-        // a scale is a digit alone
-        let value = digits.map_or_else(|| word.parse(), |digits| u64::from_str_radix(digits, 16));
-        value.unwrap_or(0)
     }
+}
 
-    fn kind_of_number(&self, value: u64) -> FormatterTextKind {
-        let instruction = self.instruction;
-        let is = |kind| instruction.op_kinds().any(|found| found == kind);
-        let target = if matches!(instruction.mnemonic(), Mnemonic::Call | Mnemonic::Callf) {
+/// Writes a piece. The digits of a number after a minus show its distance from zero.
+fn write_piece(
+    instruction: &Instruction,
+    output: &mut dyn FormatterOutput,
+    piece: &Piece,
+    text: &str,
+    is_negative: bool,
+) {
+    match piece.kind {
+        PIECE_PREFIX => output.write_prefix(instruction, text),
+        PIECE_MNEMONIC => output.write_mnemonic(instruction, text),
+        PIECE_REGISTER => output.write_register(instruction, text, register_of(text)),
+        PIECE_NUMBER => {
+            let value = if is_negative { piece.value.wrapping_neg() } else { piece.value };
+            output.write_number(instruction, text, value, kind_of_number(instruction, piece.role));
+        }
+        PIECE_KEYWORD => output.write(text, FormatterTextKind::Keyword),
+        PIECE_OPERATOR => output.write(text, FormatterTextKind::Operator),
+        PIECE_PUNCTUATION => output.write(text, FormatterTextKind::Punctuation),
+        _ => output.write(text, FormatterTextKind::Text),
+    }
+}
+
+/// The register of a piece.
+fn register_of(text: &str) -> Register {
+    let name = text.strip_prefix('%').unwrap_or(text);
+    match name.as_bytes() {
+        [b's', b't', b'(', digit @ b'0'..=b'7', b')'] => Register::of(RegisterClass::St as u8, digit - b'0'),
+        _ => Register::from_name(name).unwrap_or(Register::None),
+    }
+}
+
+/// What a number of an instruction is, by its role.
+fn kind_of_number(instruction: &Instruction, role: u8) -> FormatterTextKind {
+    match role {
+        ROLE_TARGET | ROLE_OFFSET if matches!(instruction.mnemonic(), Mnemonic::Call | Mnemonic::Callf) => {
             FormatterTextKind::FunctionAddress
-        } else {
-            FormatterTextKind::LabelAddress
-        };
-        if is(OpKind::NearBranch) && value == instruction.near_branch_target() {
-            target
-        } else if is(OpKind::FarBranch) {
-            // the selector comes first
-            if self.rest.contains([',', ':']) {
-                FormatterTextKind::SelectorValue
-            } else {
-                target
-            }
-        } else if instruction.is_ip_rel_memory_operand() && value == instruction.ip_rel_memory_address() {
-            FormatterTextKind::Data
-        } else {
-            FormatterTextKind::Number
         }
-    }
-}
-
-/// The number of `st(0)` to `st(7)` at the front of a text.
-fn stack_number(text: &str) -> Option<u8> {
-    match text.as_bytes() {
-        [b's', b't', b'(', digit @ b'0'..=b'7', b')', ..] => Some(digit - b'0'),
-        _ => None,
+        ROLE_TARGET | ROLE_OFFSET => FormatterTextKind::LabelAddress,
+        ROLE_SELECTOR => FormatterTextKind::SelectorValue,
+        ROLE_ADDRESS if instruction.is_ip_rel_memory_operand() => FormatterTextKind::Data,
+        _ => FormatterTextKind::Number,
     }
 }

@@ -9,6 +9,7 @@ from typing import Any, Dict, Iterator, List, Optional, TextIO, Tuple
 
 from .. import _native
 from .._items import SIZE
+from .._pieces import pieces_of
 from .elf import Function, Program
 from .objdump import Unlisteds
 from .scan import BAD, Chunk, Xrefs, chunks, references
@@ -60,8 +61,8 @@ def _chunks(program: Program, function: Function, unlisted: Unlisteds) -> Iterat
         yield from part
 
 
-def lines(program: Program, function: Function, style: int) -> Iterator[List[Line]]:
-    """The items of a function or section, some at a time."""
+def lines(program: Program, function: Function, style: int, painter: Optional[Painter] = None) -> Iterator[List[Line]]:
+    """The items of a function or section, some at a time. A painter colours the texts of instructions."""
     bits, start, code = program.bits, function.start, program.code_of(function)
     text, room, size = _native.text, _native.TextRoom(), _native.MAX_TEXT
     # the text of an instruction that names no address depends on its bytes alone
@@ -83,8 +84,11 @@ def lines(program: Program, function: Function, style: int) -> Iterator[List[Lin
             else:
                 words = None if n in symbols else known.get(bytes_)
                 if words is None:
-                    text(bits, style, chunk.struct_at(n), room, size)
-                    words = room.value.decode()
+                    if painter is None:
+                        text(bits, style, chunk.struct_at(n), room, size)
+                        words = room.value.decode()
+                    else:
+                        words = painter.instruction(pieces_of(bits, chunk.struct_at(n), style))
                     if n not in symbols and len(known) < MOST_KNOWN:
                         known[bytes_] = words
             found.append((start + at, bytes_, words, symbol, kind))
@@ -156,13 +160,13 @@ def write(program: Program, function: Function, style: int, colours: bool, out: 
         _write_plain(program, function, style, out, xrefs)
         return
     width, painter, headed = program.bits // 4, Painter(True), set(program.starts)
-    for some in lines(program, function, style):
+    for some in lines(program, function, style, painter):
         written = []
         for address, code, text, symbol, kind in some:
             if address in headed:
                 written.append(_heading(program, painter, address, xrefs))
             beside = "" if symbol is None else f" <{symbol}>"
-            words = painter.paint("bad", text) if text is _BAD_TEXT else painter.text(text) if kind is None else painter.paint("unlisted", text)
+            words = painter.paint("bad", text) if text is _BAD_TEXT else text if kind is None else painter.paint("unlisted", text)
             where, bytes_ = painter.paint("address", f"{address:0{width}x}"), painter.paint("bytes", f"{code.hex():30}")
             written.append(f"  {where}  {bytes_} {words}{painter.paint('symbol', beside)}\n")
         out.write("".join(written))

@@ -4,6 +4,7 @@ from __future__ import annotations
 
 import csv
 import html
+import importlib
 import io
 import json
 import os
@@ -94,7 +95,7 @@ def _by_processes(paths: Sequence[str], jobs: int) -> Iterator[Row]:
 def _by_cluster(paths: Sequence[str], address: str) -> Iterator[Row]:
     """The rows of some files, by the workers of a Dask scheduler. The workers must have this package, and see the files under the same names."""
     try:
-        import distributed
+        distributed = importlib.import_module("distributed")
     except ImportError:
         raise BadFile(NO_DASK) from None
     # Dask has no type hints

@@ -86,7 +86,7 @@ class _Rows:
         address = item.address or 0
         words = self.unlisted.text(item) if isinstance(item, Unlisted) else item.text(self.style)
         if isinstance(item, Instr):
-            text = "".join(span(kind, part) for kind, part in parts_of(words))
+            text = "".join(span(kind, part) for kind, part in parts_of(item.pieces(self.style)))
         else:
             text = span("unlisted" if isinstance(item, Unlisted) else "bad", words)
         text += self._beside(item, words) + self._note(address)

@@ -4,36 +4,32 @@ from __future__ import annotations
 
 import html
 import os
-import re
 import sys
-from typing import Iterator, Optional, TextIO, Tuple
+from itertools import groupby
+from typing import Iterable, Iterator, Optional, TextIO, Tuple
 
-import feddurzai
-from feddurzai import Instr, Item, Unlisted
+from feddurzai import Instr, Item, Piece, PieceKind, Unlisted
 
 from .elf import Program
 
-PARTS = re.compile(r"(?P<number>\b0x[0-9a-f]+|\$?\b[0-9][0-9a-f]*h?\b)|(?P<word>%?[a-z][a-z0-9]*)|(?P<rest>\s+|[^\sa-z0-9%]+|.)")
-SIZES = {"byte", "word", "dword", "qword", "fword", "tword", "oword", "yword", "xmmword", "ymmword", "ptr", "short", "near", "far", "rel"}
-REGISTERS = {*feddurzai.registers(), "st"}
 COLOURS = {"address": 90, "bytes": 90, "mnemonic": 36, "register": 33, "number": 35, "size": 90, "symbol": 32, "title": 1, "bad": 31, "note": 90, "unlisted": 2}
 
 
-def parts_of(text: str) -> Iterator[Tuple[str, str]]:
-    """Yields the parts of an instruction's text, each with its kind: mnemonic, register, number, size or rest."""
-    mnemonic = True
-    for found in PARTS.finditer(text):
-        kind, part = found.lastgroup or "rest", found.group()
-        if kind == "word":
-            if part.lstrip("%") in REGISTERS:
-                kind, mnemonic = "register", False
-            elif part in SIZES:
-                kind, mnemonic = "size", False
-            else:
-                kind = "mnemonic" if mnemonic else "rest"
-        elif not part.isspace():
-            mnemonic = False
-        yield kind, part
+# the classes of pieces, for their colours
+CLASSES = {
+    PieceKind.PREFIX: "mnemonic",
+    PieceKind.MNEMONIC: "mnemonic",
+    PieceKind.REGISTER: "register",
+    PieceKind.KEYWORD: "size",
+    PieceKind.NUMBER: "number",
+}
+
+
+def parts_of(pieces: Iterable[Piece]) -> Iterator[Tuple[str, str]]:
+    """Yields the class and the characters of pieces; consecutive pieces of one class are joined. The class is mnemonic, register, number, size or
+    rest."""
+    for kind, some in groupby(pieces, key=lambda piece: CLASSES.get(piece.kind, "rest")):
+        yield kind, "".join(piece.text for piece in some)
 
 
 def target_of(item: Item) -> Optional[int]:
@@ -78,9 +74,9 @@ class Painter:
     def paint(self, kind: str, text: str) -> str:
         return f"\x1b[{COLOURS[kind]}m{text}\x1b[0m" if self.colours and kind in COLOURS else text
 
-    def text(self, text: str) -> str:
-        """The text of an instruction."""
-        return "".join(self.paint(kind, part) for kind, part in parts_of(text)) if self.colours else text
+    def instruction(self, pieces: Iterable[Piece]) -> str:
+        """The text of an instruction, from its pieces."""
+        return "".join(self.paint(kind, part) for kind, part in parts_of(pieces))
 
 
 def wants_colours(choice: str, stream: TextIO = sys.stdout) -> bool:

@@ -27,6 +27,21 @@ use alloc::string::String;
 pub const MAX_LEN: usize = 15;
 /// The longest text with its terminating 0, in bytes.
 pub const MAX_TEXT: usize = 161;
+/// The most pieces of a text.
+pub const MAX_PIECES: usize = 40;
+/// The kinds of pieces.
+pub const PIECE_PREFIX: u8 = 0;
+pub const PIECE_MNEMONIC: u8 = 1;
+pub const PIECE_REGISTER: u8 = 2;
+pub const PIECE_KEYWORD: u8 = 3;
+pub const PIECE_NUMBER: u8 = 4;
+pub const PIECE_OPERATOR: u8 = 5;
+pub const PIECE_PUNCTUATION: u8 = 6;
+/// The roles of numbers that are no plain ones.
+pub const ROLE_TARGET: u8 = 4;
+pub const ROLE_ADDRESS: u8 = 5;
+pub const ROLE_SELECTOR: u8 = 6;
+pub const ROLE_OFFSET: u8 = 7;
 /// The text of bytes that are no instruction.
 pub const BAD: &str = "(bad)";
 /// The longest jump or call, in bytes.
@@ -53,6 +68,15 @@ extern "C" {
     ) -> i32;
     fn feddurzai_offsets(bits: u32, bytes: *const u8, len: usize, parts: *mut ByteOffsets) -> i32;
     fn feddurzai_text(bits: u32, syntax: u32, instr: *const Instr, out: *mut u8, room: usize) -> i32;
+    fn feddurzai_pieces(
+        bits: u32,
+        syntax: u32,
+        instr: *const Instr,
+        text: *mut u8,
+        room: usize,
+        pieces: *mut Piece,
+        count: usize,
+    ) -> i32;
     fn feddurzai_line(
         bits: u32,
         syntax: u32,
@@ -497,6 +521,14 @@ impl Library {
     pub fn text(self, bits: u32, syntax: u32, instr: &Instr, text: &mut Text) -> i32 {
         // SAFETY: `instr` is a struct of the header, and `out` has `room` writable bytes.
         text.filled(|out, room| unsafe { feddurzai_text(bits, syntax, instr, out, room) })
+    }
+
+    pub fn pieces(self, bits: u32, syntax: u32, instr: &Instr, text: &mut Text, pieces: &mut [Piece]) -> i32 {
+        // SAFETY: `instr` is a struct of the header, `out` has `room` writable bytes, and `pieces` as many structs as its length
+        // says.
+        text.filled_to_zero(|out, room| unsafe {
+            feddurzai_pieces(bits, syntax, instr, out, room, pieces.as_mut_ptr(), pieces.len())
+        })
     }
 
     /// Appends the text to a string: the function writes it behind the string's own bytes.

@@ -54,6 +54,16 @@ structs! {
         segment: u8,
         asize: u8,
     }
+    /// A piece of a text.
+    Piece = "feddurzai_piece" {
+        value: u64,
+        start: u8,
+        end: u8,
+        kind: u8,
+        operand: u8,
+        role: u8,
+        width: u8,
+    }
     /// A part of an instruction.
     Part = "feddurzai_part" {
         at: u8,
