@@ -62,6 +62,7 @@ lines=$(wc -l <"$list")
 read=$(second_pass "$folder/decode_speed" read "$bits")
 line "decode" "$read" "$lines"
 line "Intel text, on top" $(($(second_pass "$folder/decode_speed" print "$bits") - read)) "$lines"
+line "pieces of it, on top" $(($(second_pass "$folder/decode_speed" pieces "$bits") - read)) "$lines"
 line "encode, on top of decode" $(($(second_pass "$folder/decode_speed" encode "$bits") - read)) "$lines"
 line "a line of list intel" "$(whole "$part" list "$bits" 0 intel)" "$lines"
 line "a line of list att" "$(whole "$part" list "$bits" 0 att)" "$lines"

@@ -20,7 +20,8 @@ The entries are read once (docs/entries.md describes a line) and expanded to the
   bare      crates/decoder/src/generated_bare_rows.rt
   names     crates/intel_reader/src/generated_buckets.rt
   operands  crates/intel_reader/src/generated_operands.rt
-  branches  crates/move_goals/src/branch_forms/generated_codes.rt, crates/block_encoder/src/pushed_calls/generated_codes.rt
+  branches  crates/move_goals/src/branch_forms/generated_codes.rt, crates/block_encoder/src/pushed_calls/generated_codes.rt,
+            crates/code_assembler/src/generated_codes.rt
   effects   crates/instruction_info/src/generated_effects.rt, from the lines in crates/row_entries/data too (docs/instruction-info.md)
 
 No proof depends on this program: the crates prove the contracts and laws of what it writes, and row_entries compares the entries with the rows.
