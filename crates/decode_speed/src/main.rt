@@ -3,7 +3,7 @@
 //!     decode_speed WORK BITS PASSES
 //!     decode_speed count BITS
 //!
-//! WORK is `read`; `print` to make the Intel text of each instruction too; `pieces` to make the pieces of that text; `encode` to encode each at
+//! WORK is `read`; `print` to make the Intel text of each instruction too; `pieces` to make that text with its pieces; `encode` to encode each at
 //! its own address; or `check` to encode each and read it again. Passes are repeated until two seconds of processor time have gone by, or PASSES
 //! times where that number is above 0. `check` prints a second line: how many are shorter, as long, longer or refused, and how many are not read
 //! as the same instruction.

@@ -9,7 +9,8 @@ use decoder::{UNREAD, decode, decode_onto};
 use encoder::encode;
 use intel_text::print_to;
 use text_parts::style::Style;
-use text_pieces::pieces;
+use text_pieces::piece::Printed;
+use text_pieces::print_pieces;
 use x86_values::{Bits, Decoded, Instr, same};
 
 /// What is done with each instruction.
@@ -19,7 +20,7 @@ pub enum Work {
     Read,
     /// Its text in the Intel style is made.
     Print,
-    /// The pieces of its text in the Intel style are made.
+    /// Its text in the Intel style is made with its pieces.
     Pieces,
     /// It is encoded at its own address.
     Encode,
@@ -134,6 +135,7 @@ fn sweep<const BITS: u32>(bytes: &[u8], bits: Bits, work: Work) -> Counts
 {
     let mut counts = NOTHING;
     let mut page = Page::new();
+    let mut printed = Printed::default();
     let mut decoded = UNREAD;
     let mut rest = bytes;
     let mut ip = 0_u64;
@@ -152,8 +154,8 @@ fn sweep<const BITS: u32>(bytes: &[u8], bits: Bits, work: Work) -> Counts
                         counts.text = counts.text.wrapping_add(len as u64);
                     }
                     Work::Pieces => {
-                        let found = pieces(Style::Intel, bits, &decoded.instr);
-                        counts.text = counts.text.wrapping_add(found.len() as u64);
+                        print_pieces(&mut printed, Style::Intel, bits, &decoded.instr);
+                        counts.text = counts.text.wrapping_add(printed.pieces.as_slice().len() as u64);
                     }
                     Work::Encode => {
                         write::<BITS>(&mut counts.spellings, bits, ip, &decoded, false)

@@ -1,5 +1,7 @@
 pub mod Grown
+pub mod Some
 pub mod Short
+pub mod Laying
 pub mod AttShort
 pub mod Joined
 pub mod JoinedWords

@@ -1,15 +1,16 @@
 -- Where pieces stand: they cover their characters without a gap, and each stands for its own.
-use Rattle.std.proofs.Common.{◌≡◌, ℕ, zero, suc, ◌+◌, ◌-◌, ◌%◌, ◌<◌, ◌≤◌, Bool, true, false, List, [], ◌∷◌, ◌++◌, length, map, take, refl, ap, sym, ◌∙◌, subst, append_assoc, length-append, arith}
+use Rattle.std.proofs.Common.{◌≡◌, ◌≢◌, ◌⊎◌, inl, inr, ℕ, zero, suc, ◌+◌, ◌-◌, ◌<◌, ◌≤◌, Bool, true, false, List, [], ◌∷◌, ◌++◌, length, map, take, refl, ap, sym, ◌∙◌, subst, append_assoc, length-append, arith}
 use Rattle.std.specs.Prelude.{not, ◌==◌, if◌then◌else◌, Option, slice_range}
 use Rattle.std.specs.List.{filter}
-use Rattle.std.proofs.Math.Nat.{mod-eq_of_lt}
 use Rattle.std.proofs.Math.Seq.{drop-append_seam, take-append_seam}
 use Rattle.std.proofs.lemmas.Bool.{eqb-true}
+use Rattle.std.proofs.lemmas.Bool.Decides.{eqb_tells}
+use Rattle.std.proofs.Math.Dec.{eqb}
 use Rattle.std.proofs.lemmas.List.{append-nil, nil_from_length}
 use Rattle.text_pieces.specs.declared.piece.Kind.{Kind}
 use Rattle.text_pieces.specs.declared.piece.Piece.{Piece}
 use Rattle.text_pieces.specs.Tokens.{Token, joined, has_characters, placed, IsCover, characters_at}
-use Rattle.text_pieces.specs.Lines.{Laid, put, grown}
+use Rattle.text_pieces.specs.Lines.{Laid, closed, put, grown}
 
 -- the pieces that have characters
 abbrev pub full : List Token → List Token
@@ -40,27 +41,39 @@ full-joined (t ∷ ts) = one_more-joined (has_characters t) t (full ts) (joined 
 abbrev piece_at : ℕ → ℕ → Option ℕ → Kind → Piece
 piece_at at len operand kind = record { start = at; end = at + len; operand = operand; kind = kind }
 
-put-end-by : (b : Bool) (l : Laid) (len : ℕ) (operand : Option ℕ) (kind : Kind) → (len == 0) ≡ b → l.end + len ≤ 255
-    → (if b then l else record { items = l.items ++ record { start = l.end; end = (l.end + len) % 256; operand = operand; kind = kind } ∷ []; end = (l.end + len) % 256 }).end ≡ l.end + len
-put-end-by true l len operand kind h small = omega (arith, eqb-true len 0 h)
-put-end-by false l len operand kind h small = mod-eq_of_lt (omega arith)
+-- a sum is its first number exactly if the second is 0
+sum-equal-by : (a n : ℕ) → ((eqb n 0 ≡ true) × (n ≡ 0)) ⊎ ((eqb n 0 ≡ false) × (n ≢ 0))
+    → ((eqb (a + n) a ≡ true) × (a + n ≡ a)) ⊎ ((eqb (a + n) a ≡ false) × (a + n ≢ a)) → (a + n == a) ≡ (n == 0)
+sum-equal-by a n (inl (e, same)) (inl (f, also)) = f ∙ sym e
+sum-equal-by a n (inl (e, same)) (inr (f, not)) = absurd (not (omega (arith, same)))
+sum-equal-by a n (inr (e, not)) (inl (f, also)) = absurd (not (omega (arith, also)))
+sum-equal-by a n (inr (e, not)) (inr (f, also)) = f ∙ sym e
 
-put-end : (l : Laid) (len : ℕ) (operand : Option ℕ) (kind : Kind) → l.end + len ≤ 255 → (put len operand kind l).end ≡ l.end + len
+sum-equal : (a n : ℕ) → (a + n == a) ≡ (n == 0)
+sum-equal a n = sum-equal-by a n (eqb_tells n 0) (eqb_tells (a + n) a)
+
+closed-by : (b : Bool) (at len : ℕ) (operand : Option ℕ) (kind : Kind) (items : List Piece)
+    → (if b then items else items ++ piece_at at len operand kind ∷ []) ≡ items ++ (if b then [] else piece_at at len operand kind ∷ [])
+closed-by true at len operand kind items = sym (append-nil items)
+closed-by false at len operand kind items = refl
+
+closed-items : (at len : ℕ) (operand : Option ℕ) (kind : Kind) (items : List Piece)
+    → closed at (at + len) operand kind items ≡ items ++ (if len == 0 then [] else piece_at at len operand kind ∷ [])
+unfolding closed
+closed-items at len operand kind items =
+    closed-by (at + len == at) at len operand kind items
+    ∙ ap (λ (b : Bool). items ++ (if b then [] else piece_at at len operand kind ∷ [])) (sum-equal at len)
+
+put-items : (l : Laid) (own : List ℕ) (operand : Option ℕ) (kind : Kind)
+    → (put own operand kind l).items ≡ l.items ++ (if length own == 0 then [] else piece_at (length l.text) (length own) operand kind ∷ [])
 unfolding put
-put-end l len operand kind small = put-end-by (len == 0) l len operand kind refl small
+put-items l own operand kind =
+    ap (λ (n : ℕ). closed (length l.text) n operand kind l.items) (length-append l.text own)
+    ∙ closed-items (length l.text) (length own) operand kind l.items
 
-put-items-by : (b : Bool) (l : Laid) (len : ℕ) (operand : Option ℕ) (kind : Kind) → l.end + len ≤ 255
-    → (if b then l else record { items = l.items ++ record { start = l.end; end = (l.end + len) % 256; operand = operand; kind = kind } ∷ []; end = (l.end + len) % 256 }).items
-    ≡ l.items ++ (if b then [] else piece_at l.end len operand kind ∷ [])
-put-items-by true l len operand kind small = sym (append-nil l.items)
-put-items-by false l len operand kind small =
-    let same : (l.end + len) % 256 ≡ l.end + len = mod-eq_of_lt (omega arith) in
-    ap (λ (e : ℕ). l.items ++ record { start = l.end; end = e; operand = operand; kind = kind } ∷ []) same
-
-put-items : (l : Laid) (len : ℕ) (operand : Option ℕ) (kind : Kind) → l.end + len ≤ 255
-    → (put len operand kind l).items ≡ l.items ++ (if len == 0 then [] else piece_at l.end len operand kind ∷ [])
+put-text : (l : Laid) (own : List ℕ) (operand : Option ℕ) (kind : Kind) → (put own operand kind l).text ≡ l.text ++ own
 unfolding put
-put-items l len operand kind small = put-items-by (len == 0) l len operand kind small
+put-text l own operand kind = refl
 
 one_more-placed : (b : Bool) (at : ℕ) (items : List Piece) (t : Token) (rest : List Token) → (length t.characters == 0) ≡ b
     → (items ++ (if b then [] else piece_at at (length t.characters) t.operand t.kind ∷ [])) ++ placed (at + length t.characters) rest
@@ -71,22 +84,25 @@ one_more-placed true at items t rest h =
     ∙ ap (λ (n : ℕ). items ++ placed n rest) same
 one_more-placed false at items t rest h = append_assoc items (piece_at at (length t.characters) t.operand t.kind ∷ []) (placed (at + length t.characters) rest)
 
-next-small : (l : Laid) (t : Token) (ts : List Token) → l.end + length (t.characters ++ joined ts) ≤ 255 → l.end + length t.characters ≤ 255
-next-small l t ts h = omega (arith, length-append t.characters (joined ts))
+-- the text has what was there, and the characters of the pieces
+pub grown-text : (l : Laid) (ts : List Token) → (grown l ts).text ≡ l.text ++ joined ts
+grown-text l [] = sym (append-nil l.text)
+grown-text l (t ∷ ts) =
+    grown-text (put t.characters t.operand t.kind l) ts
+    ∙ ap (λ (xs : List ℕ). xs ++ joined ts) (put-text l t.characters t.operand t.kind)
+    ∙ append_assoc l.text t.characters (joined ts)
 
-rest-small : (l : Laid) (t : Token) (ts : List Token) → l.end + length (t.characters ++ joined ts) ≤ 255
-    → (put (length t.characters) t.operand t.kind l).end + length (joined ts) ≤ 255
-rest-small l t ts h =
-    omega (arith, length-append t.characters (joined ts), put-end l (length t.characters) t.operand t.kind (next-small l t ts h))
+put-size : (l : Laid) (t : Token) → length (put t.characters t.operand t.kind l).text ≡ length l.text + length t.characters
+put-size l t = ap length (put-text l t.characters t.operand t.kind) ∙ length-append l.text t.characters
 
--- pieces that end within a byte are put down where they stand
-pub grown-items : (l : Laid) (ts : List Token) → l.end + length (joined ts) ≤ 255 → (grown l ts).items ≡ l.items ++ placed l.end (full ts)
-grown-items l [] h = sym (append-nil l.items)
-grown-items l (t ∷ ts) h =
-    grown-items (put (length t.characters) t.operand t.kind l) ts (rest-small l t ts h)
-    ∙ ap (λ (n : ℕ). (put (length t.characters) t.operand t.kind l).items ++ placed n (full ts)) (put-end l (length t.characters) t.operand t.kind (next-small l t ts h))
-    ∙ ap (λ (xs : List Piece). xs ++ placed (l.end + length t.characters) (full ts)) (put-items l (length t.characters) t.operand t.kind (next-small l t ts h))
-    ∙ one_more-placed (length t.characters == 0) l.end l.items t (full ts) refl
+-- pieces are put down where they stand
+pub grown-items : (l : Laid) (ts : List Token) → (grown l ts).items ≡ l.items ++ placed (length l.text) (full ts)
+grown-items l [] = sym (append-nil l.items)
+grown-items l (t ∷ ts) =
+    grown-items (put t.characters t.operand t.kind l) ts
+    ∙ ap (λ (n : ℕ). (put t.characters t.operand t.kind l).items ++ placed n (full ts)) (put-size l t)
+    ∙ ap (λ (xs : List Piece). xs ++ placed (length l.text + length t.characters) (full ts)) (put-items l t.characters t.operand t.kind)
+    ∙ one_more-placed (length t.characters == 0) (length l.text) l.items t (full ts) refl
 
 -- ---- what places say
 

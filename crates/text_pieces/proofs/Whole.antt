@@ -1,5 +1,5 @@
 -- The pieces of an instruction's text, and the text.
-use Rattle.std.proofs.Common.{◌≡◌, ℕ, ◌+◌, ◌≤◌, List, [], length, map, Option, Some, None, slice_get, refl, ap, sym, ◌∙◌, subst, arith}
+use Rattle.std.proofs.Common.{◌≡◌, ℕ, ◌+◌, ◌≤◌, List, [], ◌++◌, length, map, Option, Some, None, slice_get, refl, ap, sym, ◌∙◌, subst, arith}
 use Rattle.std.specs.Prelude.{IsTrue}
 use Rattle.x86_values.specs.declared.Bits.{Bits}
 use Rattle.x86_values.specs.declared.Instr.{Instr}
@@ -23,7 +23,7 @@ use Rattle.text_pieces.specs.Lines.{Laid, grown}
 use Rattle.text_pieces.specs.Pieces.{parts_of, parts_in, pieces_of, text_of}
 use Rattle.text_pieces.proofs.JoinedLayout.{bracket-joined}
 use Rattle.text_pieces.proofs.JoinedAtt.{att-joined}
-use Rattle.text_pieces.proofs.Placed.{full, full-joined, grown-items, cover, stands_for}
+use Rattle.text_pieces.proofs.Placed.{full, full-joined, grown-text, grown-items, cover, stands_for}
 
 -- ---- the parts of a row
 
@@ -75,21 +75,36 @@ text-short Att bits i h =
 
 -- ---- what is put down
 
--- the parts of the row of a code that is there, put down at the start
-pub whole-placed : (style : Style) (bits : Bits) (i : Instr) (row : Row) (name : List ℕ) (start done : Laid) → IsTrue (is_well_formed i)
-    → start ≡ record { items = []; end = 0 } → done ≡ grown start (parts_of style bits row name i)
+-- the parts of the row of a code that is there are those of the instruction
+same-parts : (style : Style) (bits : Bits) (i : Instr) (row : Row) (name : List ℕ) → slice_get table i.code.0 ≡ Some row → name ≡ name_of i.code.0
+    → parts_of style bits row name i ≡ parts_in style bits (slice_get table i.code.0) (name_of i.code.0) i
+same-parts style bits i row name row_is name_is =
+    ap (λ (n : List ℕ). parts_of style bits row n i) name_is
+    ∙ sym (ap (λ (o : Option Row). parts_in style bits o (name_of i.code.0) i) row_is)
+
+-- the parts of the row of a code that is there, put down at the start, give the text
+pub whole-text : (style : Style) (bits : Bits) (i : Instr) (row : Row) (name : List ℕ) (start done : Laid)
+    → start.text ≡ [] → done ≡ grown start (parts_of style bits row name i)
+    → slice_get table i.code.0 ≡ Some row → name ≡ name_of i.code.0 → done.text ≡ text_of style bits i
+whole-text style bits i row name start done empty is_done row_is name_is =
+    ap (λ (l : Laid). l.text) is_done
+    ∙ grown-text start (parts_of style bits row name i)
+    ∙ ap (λ (xs : List ℕ). xs ++ joined (parts_of style bits row name i)) empty
+    ∙ ap joined (same-parts style bits i row name row_is name_is)
+    ∙ parts-text style bits i
+
+-- and the pieces
+pub whole-placed : (style : Style) (bits : Bits) (i : Instr) (row : Row) (name : List ℕ) (start done : Laid)
+    → start.text ≡ [] → start.items ≡ [] → done ≡ grown start (parts_of style bits row name i)
     → slice_get table i.code.0 ≡ Some row → name ≡ name_of i.code.0 → done.items ≡ placed 0 (pieces_of style bits i)
 unfolding pieces_of
-whole-placed style bits i row name start done well at_start is_done row_is name_is =
-    let same : parts_of style bits row name i ≡ parts_in style bits (slice_get table i.code.0) (name_of i.code.0) i =
-    ap (λ (n : List ℕ). parts_of style bits row n i) name_is
-    ∙ sym (ap (λ (o : Option Row). parts_in style bits o (name_of i.code.0) i) row_is) in
-    let short : length (joined (parts_in style bits (slice_get table i.code.0) (name_of i.code.0) i)) ≤ 160 =
-    omega (arith, ap length (parts-text style bits i), text-short style bits i well) in
+whole-placed style bits i row name start done empty none is_done row_is name_is =
+    let parts = parts_in style bits (slice_get table i.code.0) (name_of i.code.0) i in
     ap (λ (l : Laid). l.items) is_done
-    ∙ ap (λ (l : Laid). (grown l (parts_of style bits row name i)).items) at_start
-    ∙ ap (λ (ts : List Token). (grown (record { items = []; end = 0 }) ts).items) same
-    ∙ grown-items (record { items = []; end = 0 }) (parts_in style bits (slice_get table i.code.0) (name_of i.code.0) i) (omega (arith, short))
+    ∙ ap (λ (ts : List Token). (grown start ts).items) (same-parts style bits i row name row_is name_is)
+    ∙ grown-items start parts
+    ∙ ap (λ (xs : List Piece). xs ++ placed (length start.text) (full parts)) none
+    ∙ ap (λ (xs : List ℕ). placed (length xs) (full parts)) empty
 
 -- the pieces cover the text
 pub whole-cover : (style : Style) (bits : Bits) (i : Instr) (items : List Piece) → items ≡ placed 0 (pieces_of style bits i)

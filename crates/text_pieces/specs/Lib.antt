@@ -1,3 +1,4 @@
+pub mod PieceList
 pub mod Tokens
 pub mod Lines
 pub mod Words

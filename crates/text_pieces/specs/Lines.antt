@@ -1,29 +1,32 @@
--- Pieces put down one behind another.
-use Rattle.std.specs.Prelude.{ℕ, ◌+◌, ◌%◌, ◌==◌, if◌then◌else◌, List, [], ◌∷◌, ◌++◌, length, Option}
+-- A text and its pieces, put down one behind another.
+use Rattle.std.specs.Prelude.{ℕ, ◌==◌, if◌then◌else◌, List, [], ◌∷◌, ◌++◌, length, Option}
 use Rattle.text_pieces.specs.declared.piece.Kind.{Kind}
 use Rattle.text_pieces.specs.declared.piece.Piece.{Piece}
-use Rattle.text_pieces.specs.declared.line.Line.{Line}
+use Rattle.text_pieces.specs.declared.piece.Printed.{Printed}
 use Rattle.text_pieces.specs.Tokens.{Token}
 
--- pieces put down, and where the next one begins
+-- a text so far, and its pieces
 pub record Laid : Type 0 where
+  pub text : List ℕ
   pub items : List Piece
-  pub end : ℕ
 
--- what a line has
-unfoldable pub laid : Line → Laid
-laid line = record { items = line.pieces.items; end = line.end }
+-- what was printed
+unfoldable pub laid : Printed → Laid
+laid printed = record { text = printed.text.items; items = printed.pieces.items }
 
--- one more piece, unless it has no characters; a place is a byte
-unfoldable pub put : ℕ → Option ℕ → Kind → Laid → Laid
-put len operand kind l =
-    if len == 0 then l
-    else record {
-      items = l.items ++ record { start = l.end; end = (l.end + len) % 256; operand = operand; kind = kind } ∷ [];
-      end = (l.end + len) % 256;
-    }
+-- one more piece from a start to an end, unless nothing is between them
+unfoldable pub closed : ℕ → ℕ → Option ℕ → Kind → List Piece → List Piece
+closed start end operand kind items =
+    if end == start then items else items ++ record { start = start; end = end; operand = operand; kind = kind } ∷ []
+
+-- one more piece with these characters, unless there are none
+unfoldable pub put : List ℕ → Option ℕ → Kind → Laid → Laid
+put characters operand kind l = record {
+  text = l.text ++ characters;
+  items = closed (length l.text) (length (l.text ++ characters)) operand kind l.items;
+}
 
 -- more pieces in their order
 abbrev pub grown : Laid → List Token → Laid
 grown l [] = l
-grown l (t ∷ ts) = grown (put (length t.characters) t.operand t.kind l) ts
+grown l (t ∷ ts) = grown (put t.characters t.operand t.kind l) ts

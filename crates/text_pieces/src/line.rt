@@ -1,72 +1,92 @@
-//! Pieces put down one behind another.
+//! A text and its pieces, put down one behind another.
 
-ghost use Rattle.std.specs.Prelude.{◌≡◌, ◌<◌, ◌≤◌, ◌+◌, [], length, Some};
+ghost use Rattle.std.specs.Prelude.{◌≡◌, ◌<◌, ◌≤◌, ◌+◌, [], ◌∷◌, length, Some};
 ghost use Rattle.arrayvec.specs.ArrayVec.{array_vec_len};
-ghost use Rattle.text_pieces.specs.Tokens.{space, punctuation};
+ghost use Rattle.text_pieces.specs.Tokens.{space};
 ghost use Rattle.text_pieces.specs.Lines as spec;
 
-use crate::piece::{Kind, PIECES, Piece, Pieces};
-use arrayvec::ArrayVec;
+use crate::piece::{Kind, PIECES, Piece, Printed};
+use text_parts::text::{TEXT_LEN, append_few};
 
-/// Pieces, and the place at which the next one begins.
-#[derive(Drop)]
-pub struct Line {
-    pub pieces: Pieces,
-    pub end: u8,
-}
-
-/// A line without pieces.
-#[inline]
-#[tactic(auto, unfolding(crate::specs::Lines::laid))]
-pub fn empty() -> Line
-    ensures laid { spec.laid result ≡ record { items = []; end = 0 } }
-    ensures len { array_vec_len result.pieces ≡ 0 }
+/// Adds the piece of what was appended to the text since it had `start` characters.
+#[inline(always)]
+#[tactic(auto, unfolding(crate::specs::Lines::closed), using(crate::proofs::Laying::behind_rules))]
+pub fn close_some(line: &mut Printed, start: usize, operand: Option<u8>, kind: Kind)
+    requires room { length line.old.pieces.items + 1 ≤ PIECES }
+    requires some { start < array_vec_len line.old.text }
+    ensures text { line.new.text.items ≡ line.old.text.items }
+    ensures items { line.new.pieces.items ≡ spec.closed start (array_vec_len line.old.text) operand kind line.old.pieces.items }
+    ensures len { length line.new.pieces.items ≤ length line.old.pieces.items + 1 }
 {
-    Line {
-        pieces: ArrayVec::new(),
-        end: 0,
-    }
-}
-
-/// Puts down a piece of so many characters, unless there are none.
-#[inline]
-#[tactic(auto, unfolding(crate::specs::Lines::laid, crate::specs::Lines::put))]
-pub fn put(line: &mut Line, len: u8, operand: Option<u8>, kind: Kind)
-    requires { array_vec_len line.old.pieces + 1 ≤ PIECES }
-    ensures laid { spec.laid line.new ≡ spec.put len operand kind (spec.laid line.old) }
-    ensures len { array_vec_len line.new.pieces ≤ array_vec_len line.old.pieces + 1 }
-{
-    if len == 0 {
-        return;
-    }
-    let start = line.end;
-    let end = start.wrapping_add(len);
+    let end = line.text.len();
     line.pieces.push(Piece {
-        start,
-        end,
+        start: start as u8,
+        end: end as u8,
         operand,
         kind,
     });
-    line.end = end;
+}
+
+/// Adds the piece of what was appended to the text since it had `start` characters, unless that is nothing.
+#[inline(always)]
+#[tactic(auto, unfolding(crate::specs::Lines::closed))]
+pub fn close(line: &mut Printed, start: usize, operand: Option<u8>, kind: Kind)
+    requires room { length line.old.pieces.items + 1 ≤ PIECES }
+    requires place { start ≤ TEXT_LEN }
+    ensures text { line.new.text.items ≡ line.old.text.items }
+    ensures items { line.new.pieces.items ≡ spec.closed start (array_vec_len line.old.text) operand kind line.old.pieces.items }
+    ensures len { length line.new.pieces.items ≤ length line.old.pieces.items + 1 }
+{
+    let end = line.text.len();
+    if end == start {
+        return;
+    }
+    line.pieces.push(Piece {
+        start: start as u8,
+        end: end as u8,
+        operand,
+        kind,
+    });
 }
 
 /// Puts down a piece with these characters.
 #[inline(always)]
-pub fn put_text(line: &mut Line, text: &[u8], operand: Option<u8>, kind: Kind)
-    requires short { length text.now ≤ 255 }
-    requires room { array_vec_len line.old.pieces + 1 ≤ PIECES }
-    ensures laid { spec.laid line.new ≡ spec.put (length text.now) operand kind (spec.laid line.old) }
-    ensures len { array_vec_len line.new.pieces ≤ array_vec_len line.old.pieces + 1 }
+#[tactic(auto, unfolding(crate::specs::Lines::laid, crate::specs::Lines::put))]
+pub fn put_text(line: &mut Printed, text: &[u8], operand: Option<u8>, kind: Kind)
+    requires room { length line.old.pieces.items + 1 ≤ PIECES }
+    requires text { array_vec_len line.old.text + length text.now ≤ TEXT_LEN }
+    ensures laid { spec.laid line.new ≡ spec.put text.now operand kind (spec.laid line.old) }
+    ensures len { length line.new.pieces.items ≤ length line.old.pieces.items + 1 }
+    ensures size { array_vec_len line.new.text ≤ array_vec_len line.old.text + length text.now }
 {
-    put(line, text.len() as u8, operand, kind);
+    let start = line.text.len();
+    append_few(&mut line.text, text);
+    close(line, start, operand, kind);
+}
+
+/// Puts down a piece of one character.
+#[inline(always)]
+#[tactic(auto, unfolding(crate::specs::Lines::laid, crate::specs::Lines::put))]
+pub fn put_mark(line: &mut Printed, mark: u8, operand: Option<u8>, kind: Kind)
+    requires room { length line.old.pieces.items + 1 ≤ PIECES }
+    requires text { array_vec_len line.old.text + 1 ≤ TEXT_LEN }
+    ensures laid { spec.laid line.new ≡ spec.put (mark ∷ []) operand kind (spec.laid line.old) }
+    ensures len { length line.new.pieces.items ≤ length line.old.pieces.items + 1 }
+    ensures size { array_vec_len line.new.text ≤ array_vec_len line.old.text + 1 }
+{
+    let start = line.text.len();
+    line.text.push(mark);
+    close(line, start, operand, kind);
 }
 
 /// Puts down a space.
-#[inline]
-pub fn put_space(line: &mut Line, operand: Option<u8>)
-    requires { array_vec_len line.old.pieces + 1 ≤ PIECES }
+#[inline(always)]
+pub fn put_space(line: &mut Printed, operand: Option<u8>)
+    requires room { length line.old.pieces.items + 1 ≤ PIECES }
+    requires text { array_vec_len line.old.text + 1 ≤ TEXT_LEN }
     ensures laid { spec.laid line.new ≡ spec.grown (spec.laid line.old) (space operand) }
-    ensures len { array_vec_len line.new.pieces ≤ array_vec_len line.old.pieces + 1 }
+    ensures len { length line.new.pieces.items ≤ length line.old.pieces.items + 1 }
+    ensures size { array_vec_len line.new.text ≤ array_vec_len line.old.text + 1 }
 {
-    put(line, 1, operand, Kind::Space);
+    put_mark(line, b' ', operand, Kind::Space);
 }

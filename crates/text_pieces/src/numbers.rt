@@ -7,13 +7,13 @@ ghost use Rattle.text_parts.specs.Numbers as text;
 ghost use Rattle.text_pieces.specs.Lines.{laid, grown};
 ghost use Rattle.text_pieces.specs.Numbers as spec;
 
-use crate::line::{Line, put};
-use crate::piece::{Kind, Number, PIECES, Role};
-use arrayvec::ArrayVec;
+use crate::line::close_some;
+use crate::piece::{Kind, Number, PIECES, Printed, Role};
 use instruction_parts::row_types::{OpKind, Row, Size};
 use row_fit::tail_fits::kind_at;
 use text_parts::numbers::append_number;
 use text_parts::style::Style;
+use text_parts::text::TEXT_LEN;
 use x86_values::{Bits, Mem};
 
 /// The bytes of a size in bits.
@@ -156,21 +156,16 @@ pub fn index_scale(m: &Mem) -> Number
     }
 }
 
-/// How many characters a number has.
-#[tactic(auto, using(crate::proofs::Short::number_short))]
-fn number_len(style: Style, n: u64) -> u8
-    ensures { result ≡ length (text.number style n) }
-{
-    let mut text: ArrayVec<u8, 18> = ArrayVec::new();
-    append_number(&mut text, style, n);
-    text.len() as u8
-}
-
 /// Puts down a number of operand `n`, with the characters of `shown`.
-pub fn put_number(line: &mut Line, style: Style, n: u8, shown: u64, x: Number)
-    requires { array_vec_len line.old.pieces + 1 ≤ PIECES }
+#[tactic(auto, unfolding(crate::specs::Lines::laid, crate::specs::Lines::put), using(crate::proofs::Short::number_short))]
+pub fn put_number(line: &mut Printed, style: Style, n: u8, shown: u64, x: Number)
+    requires room { length line.old.pieces.items + 1 ≤ PIECES }
+    requires text { array_vec_len line.old.text + 18 ≤ TEXT_LEN }
     ensures laid { laid line.new ≡ grown (laid line.old) (spec.number_pieces style n shown x) }
-    ensures len { array_vec_len line.new.pieces ≤ array_vec_len line.old.pieces + 1 }
+    ensures len { length line.new.pieces.items ≤ length line.old.pieces.items + 1 }
+    ensures size { array_vec_len line.new.text ≤ array_vec_len line.old.text + 18 }
 {
-    put(line, number_len(style, shown), Some(n), Kind::Number(x));
+    let start = line.text.len();
+    append_number(&mut line.text, style, shown);
+    close_some(line, start, Some(n), Kind::Number(x));
 }

@@ -1,6 +1,9 @@
 //! The pieces of a text.
 
-use arrayvec::ArrayVec;
+ghost use Rattle.std.specs.Prelude.{◌≡◌, ◌≤◌, ◌+◌, [], ◌∷◌, ◌++◌, length};
+
+use std::marker::Model;
+use text_parts::text::Text;
 
 /// What a number of an operand is there for.
 #[derive(Clone, Copy, PartialEq, Eq, Debug)]
@@ -81,5 +84,78 @@ impl Default for Piece {
 /// The maximum number of pieces of a text.
 pub const PIECES: usize = 40;
 
-/// The pieces of a text, in their order.
-pub type Pieces = ArrayVec<Piece, PIECES>;
+/// The pieces of a text, in their order: at most `PIECES`.
+///
+/// It is an array and a count, so that to make it empty takes one write.
+#[derive(Drop)]
+pub struct Pieces {
+    places: [Piece; PIECES],
+    count: usize,
+}
+
+impl Model for Pieces {
+    ghost use Rattle.std.specs.Prelude.{◌≤◌, take};
+    ghost use Rattle.text_pieces.specs.PieceList.{PieceList};
+
+    ghost Value = { PieceList };
+
+    ghost view = { λ p. record { items = take p.count p.places } };
+
+    ghost invariant = { λ p. p.count ≤ 40 };
+}
+
+impl Pieces {
+    /// No pieces.
+    #[inline]
+    pub fn new() -> Pieces
+        ensures { result.items ≡ [] }
+    {
+        Pieces {
+            places: [Piece::default(); PIECES],
+            count: 0,
+        }
+    }
+
+    /// Removes all pieces.
+    #[inline]
+    pub fn clear(&mut self)
+        ensures { self.new.items ≡ [] }
+    {
+        self.count = 0;
+    }
+
+    /// Adds a piece at the end.
+    #[inline(always)]
+    pub(crate) fn push(&mut self, piece: Piece)
+        requires { length self.old.items + 1 ≤ PIECES }
+        ensures { self.new.items ≡ self.old.items ++ piece ∷ [] }
+    {
+        let count = self.count;
+        self.places[count] = piece;
+        self.count = count + 1;
+    }
+
+    /// Returns the pieces.
+    #[inline]
+    pub fn as_slice(&self) -> &[Piece]
+        ensures items { result.now ≡ self.now.items }
+        ensures few { length result.now ≤ 40 }
+    {
+        &self.places[..self.count]
+    }
+}
+
+impl Default for Pieces {
+    ghost is_default = { λ p. p.items ≡ [] };
+
+    fn default() -> Pieces {
+        Pieces::new()
+    }
+}
+
+/// A text and its pieces. `Printed::default()` is empty; one can be used for many instructions.
+#[derive(Drop, Default)]
+pub struct Printed {
+    pub text: Text,
+    pub pieces: Pieces,
+}

@@ -1,27 +1,30 @@
 //! The pieces in front of an instruction's operands: the words of its prefixes, and its name.
 
-ghost use Rattle.std.specs.Prelude.{◌≡◌, ◌≤◌, ◌+◌, length};
+ghost use Rattle.std.specs.Prelude.{◌≡◌, ◌≤◌, ◌+◌, ◌++◌, length, None};
 ghost use Rattle.std.specs.List.{list_any};
 ghost use Rattle.arrayvec.specs.ArrayVec.{array_vec_len};
 ghost use Rattle.text_parts.specs.PrefixWords as text;
-ghost use Rattle.text_pieces.specs.Lines.{laid, grown};
+ghost use Rattle.text_pieces.specs.declared.piece.Kind.TheVariants as kind;
+ghost use Rattle.text_pieces.specs.Lines.{laid, put, grown};
 ghost use Rattle.text_pieces.specs.Words as spec;
 
-use crate::line::{Line, put, put_space, put_text};
-use crate::piece::{Kind, PIECES};
+use crate::line::{close, put_space, put_text};
+use crate::piece::{Kind, PIECES, Printed};
 use instruction_parts::row_types::{Row, Size};
 use instruction_parts::sizes::operand_size;
 use text_parts::prefix_words::{has_memory, name_text, size_digits};
 use text_parts::registers::segment_name;
+use text_parts::text::{TEXT_LEN, append, append_few};
 use x86_values::{Bits, Instr, Operand, Register, Rep, same_bits};
 
 /// Puts down a prefix and the space behind it.
 #[inline]
-fn put_word(line: &mut Line, word: &[u8])
-    requires short { length word.now ≤ 255 }
-    requires room { array_vec_len line.old.pieces + 2 ≤ PIECES }
+fn put_word(line: &mut Printed, word: &[u8])
+    requires room { length line.old.pieces.items + 2 ≤ PIECES }
+    requires text { array_vec_len line.old.text + (length word.now + 1) ≤ TEXT_LEN }
     ensures laid { laid line.new ≡ grown (laid line.old) (spec.word_pieces word.now) }
-    ensures len { array_vec_len line.new.pieces ≤ array_vec_len line.old.pieces + 2 }
+    ensures len { length line.new.pieces.items ≤ length line.old.pieces.items + 2 }
+    ensures size { array_vec_len line.new.text ≤ array_vec_len line.old.text + (length word.now + 1) }
 {
     put_text(line, word, None, Kind::Prefix);
     put_space(line, None);
@@ -30,10 +33,12 @@ fn put_word(line: &mut Line, word: &[u8])
 /// Puts down LOCK.
 #[inline]
 #[tactic(auto, unfolding(crate::specs::Words::lock_pieces))]
-fn put_lock(line: &mut Line, lock: bool)
-    requires { array_vec_len line.old.pieces + 2 ≤ PIECES }
+fn put_lock(line: &mut Printed, lock: bool)
+    requires room { length line.old.pieces.items + 2 ≤ PIECES }
+    requires text { array_vec_len line.old.text + 5 ≤ TEXT_LEN }
     ensures laid { laid line.new ≡ grown (laid line.old) (spec.lock_pieces lock) }
-    ensures len { array_vec_len line.new.pieces ≤ array_vec_len line.old.pieces + 2 }
+    ensures len { length line.new.pieces.items ≤ length line.old.pieces.items + 2 }
+    ensures size { array_vec_len line.new.text ≤ array_vec_len line.old.text + 5 }
 {
     if lock {
         put_word(line, b"lock");
@@ -43,10 +48,12 @@ fn put_lock(line: &mut Line, lock: bool)
 /// Puts down a repeat prefix.
 #[inline]
 #[tactic(auto, unfolding(crate::specs::Words::repeat_pieces))]
-fn put_repeat(line: &mut Line, rep: Rep)
-    requires { array_vec_len line.old.pieces + 2 ≤ PIECES }
+fn put_repeat(line: &mut Printed, rep: Rep)
+    requires room { length line.old.pieces.items + 2 ≤ PIECES }
+    requires text { array_vec_len line.old.text + 6 ≤ TEXT_LEN }
     ensures laid { laid line.new ≡ grown (laid line.old) (spec.repeat_pieces rep) }
-    ensures len { array_vec_len line.new.pieces ≤ array_vec_len line.old.pieces + 2 }
+    ensures len { length line.new.pieces.items ≤ length line.old.pieces.items + 2 }
+    ensures size { array_vec_len line.new.text ≤ array_vec_len line.old.text + 6 }
 {
     match rep {
         Rep::None => {}
@@ -57,10 +64,12 @@ fn put_repeat(line: &mut Line, rep: Rep)
 
 /// Puts down the segment, if no operand is memory.
 #[tactic(auto, unfolding(crate::specs::Words::segment_pieces), using(crate::proofs::Short::segment_short))]
-fn put_segment(line: &mut Line, instr: &Instr)
-    requires { array_vec_len line.old.pieces + 2 ≤ PIECES }
+fn put_segment(line: &mut Printed, instr: &Instr)
+    requires room { length line.old.pieces.items + 2 ≤ PIECES }
+    requires text { array_vec_len line.old.text + 3 ≤ TEXT_LEN }
     ensures laid { laid line.new ≡ grown (laid line.old) (spec.segment_pieces instr.now) }
-    ensures len { array_vec_len line.new.pieces ≤ array_vec_len line.old.pieces + 2 }
+    ensures len { length line.new.pieces.items ≤ length line.old.pieces.items + 2 }
+    ensures size { array_vec_len line.new.text ≤ array_vec_len line.old.text + 3 }
 {
     match instr.seg {
         None => {}
@@ -72,21 +81,35 @@ fn put_segment(line: &mut Line, instr: &Instr)
     }
 }
 
-/// Puts down a letter with a size, as `a32`.
-#[inline(never)]
-#[tactic(auto, unfolding(crate::specs::Words::sized_pieces), using(crate::proofs::Short::digits_short))]
-fn put_sized(line: &mut Line, letter: &[u8], size: Bits)
+/// Puts down a letter with a size.
+#[inline]
+#[tactic(auto, using(crate::proofs::Short::digits_short))]
+fn put_size(line: &mut Printed, letter: &[u8], size: Bits)
     requires short { length letter.now ≤ 1 }
-    requires room { array_vec_len line.old.pieces + 2 ≤ PIECES }
-    ensures laid { laid line.new ≡ grown (laid line.old) (spec.sized_pieces letter.now size) }
-    ensures len { array_vec_len line.new.pieces ≤ array_vec_len line.old.pieces + 2 }
+    requires room { length line.old.pieces.items + 1 ≤ PIECES }
+    requires text { array_vec_len line.old.text + 3 ≤ TEXT_LEN }
+    ensures laid { laid line.new ≡ put (letter.now ++ text.size_digits size) None kind.Prefix (laid line.old) }
+    ensures len { length line.new.pieces.items ≤ length line.old.pieces.items + 1 }
+    ensures size { array_vec_len line.new.text ≤ array_vec_len line.old.text + 3 }
 {
-    put(
-        line,
-        (letter.len() + size_digits(size).len()) as u8,
-        None,
-        Kind::Prefix,
-    );
+    let start = line.text.len();
+    append_few(&mut line.text, letter);
+    append_few(&mut line.text, size_digits(size));
+    close(line, start, None, Kind::Prefix);
+}
+
+/// Puts down a letter with a size, as `a32`, and the space behind it.
+#[inline(never)]
+#[tactic(auto, unfolding(crate::specs::Words::sized_pieces))]
+fn put_sized(line: &mut Printed, letter: &[u8], size: Bits)
+    requires short { length letter.now ≤ 1 }
+    requires room { length line.old.pieces.items + 2 ≤ PIECES }
+    requires text { array_vec_len line.old.text + 4 ≤ TEXT_LEN }
+    ensures laid { laid line.new ≡ grown (laid line.old) (spec.sized_pieces letter.now size) }
+    ensures len { length line.new.pieces.items ≤ length line.old.pieces.items + 2 }
+    ensures size { array_vec_len line.new.text ≤ array_vec_len line.old.text + 4 }
+{
+    put_size(line, letter, size);
     put_space(line, None);
 }
 
@@ -135,10 +158,12 @@ fn is_worded(bits: Bits, size: Bits, name: &[u8], instr: &Instr) -> bool
 
 /// Puts down the address size, if it is not the mode's and nothing else shows it.
 #[tactic(auto, unfolding(crate::specs::Words::address_pieces))]
-fn put_address_size(line: &mut Line, bits: Bits, name: &[u8], instr: &Instr)
-    requires { array_vec_len line.old.pieces + 2 ≤ PIECES }
+fn put_address_size(line: &mut Printed, bits: Bits, name: &[u8], instr: &Instr)
+    requires room { length line.old.pieces.items + 2 ≤ PIECES }
+    requires text { array_vec_len line.old.text + 4 ≤ TEXT_LEN }
     ensures laid { laid line.new ≡ grown (laid line.old) (spec.address_pieces bits name.now instr.now) }
-    ensures len { array_vec_len line.new.pieces ≤ array_vec_len line.old.pieces + 2 }
+    ensures len { length line.new.pieces.items ≤ length line.old.pieces.items + 2 }
+    ensures size { array_vec_len line.new.text ≤ array_vec_len line.old.text + 4 }
 {
     match instr.asize {
         None => {}
@@ -185,10 +210,12 @@ fn worded_size(bits: Bits, row: &Row) -> Option<Bits>
 
 /// Puts down the operand size, if it has a word.
 #[tactic(auto, unfolding(crate::specs::Words::operand_size_pieces))]
-fn put_operand_size(line: &mut Line, bits: Bits, row: &Row)
-    requires { array_vec_len line.old.pieces + 2 ≤ PIECES }
+fn put_operand_size(line: &mut Printed, bits: Bits, row: &Row)
+    requires room { length line.old.pieces.items + 2 ≤ PIECES }
+    requires text { array_vec_len line.old.text + 4 ≤ TEXT_LEN }
     ensures laid { laid line.new ≡ grown (laid line.old) (spec.operand_size_pieces bits row.now) }
-    ensures len { array_vec_len line.new.pieces ≤ array_vec_len line.old.pieces + 2 }
+    ensures len { length line.new.pieces.items ≤ length line.old.pieces.items + 2 }
+    ensures size { array_vec_len line.new.text ≤ array_vec_len line.old.text + 4 }
 {
     match worded_size(bits, row) {
         None => {}
@@ -198,10 +225,12 @@ fn put_operand_size(line: &mut Line, bits: Bits, row: &Row)
 
 /// Puts down the words of the prefixes, in their order.
 #[tactic(auto, unfolding(crate::specs::Words::prefix_pieces), using(crate::proofs::Grown::grown_rules))]
-pub fn put_prefixes(line: &mut Line, bits: Bits, row: &Row, name: &[u8], instr: &Instr)
-    requires { array_vec_len line.old.pieces + 10 ≤ PIECES }
+pub fn put_prefixes(line: &mut Printed, bits: Bits, row: &Row, name: &[u8], instr: &Instr)
+    requires room { length line.old.pieces.items + 10 ≤ PIECES }
+    requires text { array_vec_len line.old.text + 22 ≤ TEXT_LEN }
     ensures laid { laid line.new ≡ grown (laid line.old) (spec.prefix_pieces bits row.now name.now instr.now) }
-    ensures len { array_vec_len line.new.pieces ≤ array_vec_len line.old.pieces + 10 }
+    ensures len { length line.new.pieces.items ≤ length line.old.pieces.items + 10 }
+    ensures size { array_vec_len line.new.text ≤ array_vec_len line.old.text + 22 }
 {
     put_lock(line, instr.lock);
     put_repeat(line, instr.rep);
@@ -212,12 +241,16 @@ pub fn put_prefixes(line: &mut Line, bits: Bits, row: &Row, name: &[u8], instr: 
 
 /// Puts down the name of an instruction whose row has this name.
 #[inline]
-#[tactic(auto, using(crate::proofs::Short::name_short))]
-pub fn put_name(line: &mut Line, bits: Bits, name: &[u8], instr: &Instr)
+#[tactic(auto, unfolding(crate::specs::Lines::laid, crate::specs::Lines::put), using(crate::proofs::Short::name_short))]
+pub fn put_name(line: &mut Printed, bits: Bits, name: &[u8], instr: &Instr)
     requires short { length name.now ≤ 20 }
-    requires room { array_vec_len line.old.pieces + 1 ≤ PIECES }
+    requires room { length line.old.pieces.items + 1 ≤ PIECES }
+    requires text { array_vec_len line.old.text + 20 ≤ TEXT_LEN }
     ensures laid { laid line.new ≡ grown (laid line.old) (spec.name_pieces bits name.now instr.now) }
-    ensures len { array_vec_len line.new.pieces ≤ array_vec_len line.old.pieces + 1 }
+    ensures len { length line.new.pieces.items ≤ length line.old.pieces.items + 1 }
+    ensures size { array_vec_len line.new.text ≤ array_vec_len line.old.text + 20 }
 {
-    put_text(line, name_text(bits, name, instr), None, Kind::Mnemonic);
+    let start = line.text.len();
+    append(&mut line.text, name_text(bits, name, instr));
+    close(line, start, None, Kind::Mnemonic);
 }

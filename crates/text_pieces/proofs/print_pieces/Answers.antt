@@ -1,12 +1,18 @@
 use Rattle.text_pieces.specs.Lines.{laid}
-use Rattle.text_pieces.proofs.Whole.{pieces-text, text-short, whole-placed, whole-cover, whole-characters}
-use Rattle.text_pieces.proofs.pieces.Goals as goal
+use Rattle.text_pieces.proofs.Whole.{pieces-text, text-short, whole-text, whole-placed, whole-cover, whole-characters}
+use Rattle.text_pieces.proofs.print_pieces.Goals as goal
+
+pub returns-clause-text : goal.returns-clause-text
+unfolding laid
+returns-clause-text c =
+    whole-text c.args.style c.args.bits c.args.instr.now c.printed_row.result c.printed_name.result.now _ _
+    c.new-printed.ensures c.put_row.ensures c.printed_row.ensures.row c.printed_name.ensures.name
 
 pub returns-clause-places : goal.returns-clause-places
 unfolding laid
 returns-clause-places c =
-    whole-placed c.args.style c.args.bits c.args.instr.now c.printed_row.result c.printed_name.result.now _ _ c.requires
-    c.empty-line.ensures.laid c.put_row.ensures c.printed_row.ensures.row c.printed_name.ensures.name
+    whole-placed c.args.style c.args.bits c.args.instr.now c.printed_row.result c.printed_name.result.now _ _
+    c.new-printed.ensures c.clear.ensures c.put_row.ensures c.printed_row.ensures.row c.printed_name.ensures.name
 
 pub returns-clause-joined : goal.returns-clause-joined
 returns-clause-joined c = pieces-text c.args.style c.args.bits c.args.instr.now

@@ -1,0 +1,11 @@
+use Rattle.std.proofs.Common.{◌∙◌}
+use Rattle.text_parts.proofs.Bounds.{register-le}
+use Rattle.text_pieces.proofs.Some.{register-some}
+use Rattle.text_pieces.proofs.Laying.{grows, longer}
+use Rattle.text_pieces.proofs.addresses.put_register.Goals as goal
+
+pub returns-clause-size : goal.returns-clause-size
+returns-clause-size c = grows _ _ _ _ (c.close_some.ensures.text ∙ c.append_register.ensures) (register-le c.args.style c.args.r)
+
+pub close_some-requires-clause-some : goal.close_some-requires-clause-some
+close_some-requires-clause-some c = longer _ _ _ _ c.len-start.ensures.value c.append_register.ensures (register-some c.args.style c.args.r)
