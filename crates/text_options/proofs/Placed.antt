@@ -12,8 +12,8 @@ use Rattle.text_options.specs.declared.behind.Behind.TheVariants.{Other}
 use Rattle.text_options.specs.declared.view.View.{View}
 use Rattle.text_options.specs.Answers.{Answers}
 use Rattle.text_options.specs.Views.{view_of}
-use Rattle.text_options.specs.Changed.{text_by}
-use Rattle.text_options.specs.Parts.{after, piece_text, from_place, comment, comments, changed}
+use Rattle.text_options.specs.Changed.{pieces_by}
+use Rattle.text_options.specs.Parts.{after, changed_piece, from_place, comment, comments, changed}
 use Rattle.text_options.specs.Placed.{placed_text, placed_comments}
 
 head-same : (x y : List ℕ) (xs ys : List (List ℕ)) → x ∷ xs ≡ y ∷ ys → x ≡ y
@@ -31,9 +31,9 @@ placed-tokens view names text [] at behind e = refl
 placed-tokens view names text (t ∷ ts) at behind e =
     let end : ℕ = at + length t.characters in
     let own : characters_at text (record { start = at; end = at + length t.characters; operand = t.operand; kind = t.kind }) ≡ t.characters = head-same _ _ _ _ e in
-    ap (λ (cs : List ℕ). piece_text view names (at + length t.characters) behind t.kind cs
+    ap (λ (cs : List ℕ). changed_piece view names (at + length t.characters) behind t.operand t.kind cs
     ++ placed_text view names text (after behind t.kind) (placed (at + length t.characters) ts)) own
-    ∙ ap (λ (rest : List ℕ). piece_text view names (at + length t.characters) behind t.kind t.characters ++ rest)
+    ∙ ap (λ (rest : List ℕ). changed_piece view names (at + length t.characters) behind t.operand t.kind t.characters ++ rest)
     (placed-tokens view names text ts (at + length t.characters) (after behind t.kind) (tail-same _ _ _ _ e))
 
 -- the comments of pieces are those of their tokens
@@ -48,8 +48,8 @@ placed-comments view names (t ∷ ts) at =
 pub text-by : (style : Style) (options : Options) (bits : Bits) (instr : Instr) (end : ℕ) (names : Answers) (view : View) (text : List ℕ) (items : List Piece)
     → view ≡ view_of style options instr end → text ≡ text_of style bits instr → items ≡ placed 0 (pieces_of style bits instr)
     → map (characters_at (text_of style bits instr)) items ≡ map (λ t. t.characters) (pieces_of style bits instr)
-    → placed_text view names text Other items ++ placed_comments view names items ≡ text_by style options bits instr end names
-unfolding text_by changed
+    → placed_text view names text Other items ++ placed_comments view names items ≡ pieces_by style options bits instr end names
+unfolding changed
 text-by style options bits instr end names view text items v t i own =
     let ts = pieces_of style bits instr in
     let own_placed : map (characters_at (text_of style bits instr)) (placed 0 ts) ≡ map (λ t. t.characters) ts =
@@ -65,7 +65,7 @@ pub whole-text : (style : Style) (options : Options) (bits : Bits) (instr : Inst
     → view ≡ view_of style options instr end → text ≡ text_of style bits instr → items ≡ placed 0 (pieces_of style bits instr)
     → map (characters_at (text_of style bits instr)) items ≡ map (λ t. t.characters) (pieces_of style bits instr) → again ≡ items
     → mid ≡ start ++ placed_text view names text Other items
-    → done ≡ mid ++ placed_comments view names again → done ≡ start ++ text_by style options bits instr end names
+    → done ≡ mid ++ placed_comments view names again → done ≡ start ++ pieces_by style options bits instr end names
 whole-text style options bits instr end names view start mid done text items again v t i own a m d =
     d
     ∙ ap (λ (ps : List Piece). mid ++ placed_comments view names ps) a

@@ -1,6 +1,6 @@
 -- With the default options and no symbols, each piece is as the printer writes it.
 use Rattle.std.proofs.Common.{◌≡◌, ℕ, ◌+◌, ◌-◌, false, List, [], ◌∷◌, ◌++◌, length, None, refl, ap, ◌∙◌, arith}
-use Rattle.std.specs.Prelude.{replicate}
+use Rattle.std.specs.Prelude.{replicate, Option, codes}
 use Rattle.std.proofs.lemmas.List.{append-nil}
 use Rattle.x86_values.specs.declared.Bits.{Bits}
 use Rattle.x86_values.specs.declared.Instr.{Instr}
@@ -15,20 +15,24 @@ use Rattle.text_pieces.specs.Pieces.{pieces_of, text_of}
 use Rattle.text_pieces.proofs.Whole.{pieces-text}
 use Rattle.text_options.specs.declared.options.Letters.TheVariants.{Lower}
 use Rattle.text_options.specs.declared.behind.Behind.{Behind}
-use Rattle.text_options.specs.declared.behind.Behind.TheVariants.{Other, Name, Mark, SizeWord, RelativeWord}
+use Rattle.text_options.specs.declared.behind.Behind.TheVariants.{Other, Name, Register as BehindRegister, Mark, SizeWord, RelativeWord}
 use Rattle.text_options.specs.declared.view.View.{View}
 use Rattle.text_options.specs.Answers.{Answers}
 use Rattle.text_options.specs.Defaults.{default_options}
 use Rattle.text_options.specs.Spelling.{is_upper, spelled}
-use Rattle.text_options.specs.Views.{view_of, drops_sizes, pointer_of}
-use Rattle.text_options.specs.Values.{value, immediate, address, plain}
+use Rattle.text_options.specs.Views.{view_of, drops_sizes, is_size_needless, is_unsized, pointer_of, is_bare, special_in}
+use Rattle.text_options.specs.Values.{digits, value, immediate, address, plain}
 use Rattle.text_options.specs.Symbolic.{asked, place, resolved, noted}
-use Rattle.text_options.specs.Parts.{after, gap, comma_space, unless, space_text, drops_keyword, keyword_text, piece_text, comment, from_place, comments, changed}
-use Rattle.text_options.specs.Changed.{text_by}
+use Rattle.text_options.specs.Parts.{after, gap, comma_space, unless, space_text, drops_keyword, keyword_text, piece_text, is_bare_bracket, change_of, top_name, changed_piece, comment, from_place, comments, changed}
+use Rattle.text_options.specs.declared.gnu_pieces.Change.{Change}
+use Rattle.text_options.specs.declared.gnu_pieces.Change.TheVariants.{Keep, Drop, One, Top, Port, Value}
+use Rattle.text_options.specs.GnuFront.{port}
+use Rattle.text_options.proofs.Unasked.{IsUnasked, AreUnasked, none-asked}
+use Rattle.text_options.specs.Changed.{front_text, shown_instr, text_of_bytes, text_by}
 
 -- how an instruction is written by default
 abbrev pub plain_view : Style → ℕ → View
-plain_view style end = record { style = style; options = default_options; drops_sizes = false; pointer = None; end = end }
+plain_view style end = record { style = style; options = default_options; drops_sizes = false; pointer = None; bare = false; special = None; end = end }
 
 -- ---- numbers
 
@@ -43,22 +47,11 @@ value-of style end n width Address cs = refl
 value-of style end n width Selector cs = refl
 value-of style end n width Offset cs = refl
 
-asked-of : (names : Answers) (n width : ℕ) (role : Role) → ((a : ℕ) → names a ≡ None)
-    → asked names (record { value = n; width = width; role = role }) ≡ None
-unfolding asked
-asked-of names n width Immediate h = refl
-asked-of names n width Displacement h = refl
-asked-of names n width Scale h = refl
-asked-of names n width Target h = h n
-asked-of names n width Address h = h n
-asked-of names n width Selector h = refl
-asked-of names n width Offset h = refl
-
-number-plain : (style : Style) (end : ℕ) (names : Answers) (x : Number) (cs : List ℕ) → ((a : ℕ) → names a ≡ None)
+number-plain : (style : Style) (end : ℕ) (names : Answers) (x : Number) (cs : List ℕ) → asked names x ≡ None
     → resolved (plain_view style end) x cs (asked names x) ≡ cs
 unfolding resolved
 number-plain style end names x cs h =
-    ap (λ o. resolved (plain_view style end) x cs o) (asked-of names x.value x.width x.role h) ∙ value-of style end x.value x.width x.role cs
+    ap (λ o. resolved (plain_view style end) x cs o) h ∙ value-of style end x.value x.width x.role cs
 
 -- ---- spaces and words
 
@@ -86,6 +79,7 @@ space-plain style end at Name cs = gap-plain style end at cs
 space-plain style end at Mark cs = refl
 space-plain style end at SizeWord cs = refl
 space-plain style end at RelativeWord cs = refl
+space-plain style end at BehindRegister cs = refl
 space-plain style end at Other cs = refl
 
 keyword-plain : (style : Style) (end : ℕ) (behind : Behind) (cs : List ℕ) → keyword_text (plain_view style end) behind cs ≡ cs
@@ -94,11 +88,12 @@ keyword-plain style end Name cs = spelled-plain Keyword cs
 keyword-plain style end Mark cs = spelled-plain Keyword cs
 keyword-plain style end SizeWord cs = spelled-plain Keyword cs
 keyword-plain style end RelativeWord cs = spelled-plain Keyword cs
+keyword-plain style end BehindRegister cs = spelled-plain Keyword cs
 keyword-plain style end Other cs = spelled-plain Keyword cs
 
 -- ---- pieces
 
-piece-plain : (style : Style) (end : ℕ) (names : Answers) (at : ℕ) (behind : Behind) (kind : Kind) (cs : List ℕ) → ((a : ℕ) → names a ≡ None)
+piece-plain : (style : Style) (end : ℕ) (names : Answers) (at : ℕ) (behind : Behind) (kind : Kind) (cs : List ℕ) → IsUnasked names kind
     → piece_text (plain_view style end) names at behind kind cs ≡ cs
 unfolding piece_text
 piece-plain style end names at behind (NumberKind x) cs h = number-plain style end names x cs h
@@ -109,6 +104,35 @@ piece-plain style end names at behind Mnemonic cs h = spelled-plain Mnemonic cs
 piece-plain style end names at behind Register cs h = spelled-plain Register cs
 piece-plain style end names at behind Operator cs h = spelled-plain Operator cs
 piece-plain style end names at behind Punctuation cs h = spelled-plain Punctuation cs
+
+-- no piece is changed
+keep-plain : (style : Style) (end : ℕ) (behind : Behind) (operand : Option ℕ) (kind : Kind) → change_of (plain_view style end) behind operand kind ≡ Keep
+unfolding change_of is_bare_bracket
+keep-plain style end behind operand Prefix = refl
+keep-plain style end behind operand Mnemonic = refl
+keep-plain style end behind operand Register = refl
+keep-plain style end behind operand Keyword = refl
+keep-plain style end behind operand (NumberKind x) = refl
+keep-plain style end behind operand Operator = refl
+keep-plain style end behind operand Punctuation = refl
+keep-plain style end behind operand Space = refl
+
+by-change : View → Answers → ℕ → Behind → Kind → List ℕ → Change → List ℕ
+by-change view names at behind kind cs change = elim change [
+  | Keep ↦ piece_text view names at behind kind cs
+  | Drop ↦ []
+  | One ↦ codes "1"
+  | Top ↦ spelled view.options.letters Register (top_name view.style)
+  | Port ↦ port view.style view.options.letters
+  | Value n ↦ digits view n
+]
+
+piece-kept : (style : Style) (end : ℕ) (names : Answers) (at : ℕ) (behind : Behind) (operand : Option ℕ) (kind : Kind) (cs : List ℕ) → IsUnasked names kind
+    → changed_piece (plain_view style end) names at behind operand kind cs ≡ cs
+unfolding changed_piece by-change
+piece-kept style end names at behind operand kind cs h =
+    ap (λ (change : Change). by-change (plain_view style end) names at behind kind cs change) (keep-plain style end behind operand kind)
+    ∙ piece-plain style end names at behind kind cs h
 
 comment-plain : (style : Style) (end : ℕ) (names : Answers) (kind : Kind) → comment (plain_view style end) names kind ≡ []
 unfolding comment noted place
@@ -121,14 +145,14 @@ comment-plain style end names Register = refl
 comment-plain style end names Operator = refl
 comment-plain style end names Punctuation = refl
 
-from-plain : (style : Style) (end : ℕ) (names : Answers) (ts : List Token) (at : ℕ) (behind : Behind) → ((a : ℕ) → names a ≡ None)
+from-plain : (style : Style) (end : ℕ) (names : Answers) (ts : List Token) (at : ℕ) (behind : Behind) → AreUnasked names ts
     → from_place (plain_view style end) names at behind ts ≡ joined ts
 unfolding from_place
 from-plain style end names [] at behind h = refl
 from-plain style end names (t ∷ ts) at behind h =
     ap (λ (cs : List ℕ). cs ++ from_place (plain_view style end) names (at + length t.characters) (after behind t.kind) ts)
-    (piece-plain style end names (at + length t.characters) behind t.kind t.characters h)
-    ∙ ap (λ (rest : List ℕ). t.characters ++ rest) (from-plain style end names ts (at + length t.characters) (after behind t.kind) h)
+    (piece-kept style end names (at + length t.characters) behind t.operand t.kind t.characters h.0)
+    ∙ ap (λ (rest : List ℕ). t.characters ++ rest) (from-plain style end names ts (at + length t.characters) (after behind t.kind) h.1)
 
 comments-plain : (style : Style) (end : ℕ) (names : Answers) (ts : List Token) → comments (plain_view style end) names ts ≡ []
 unfolding comments
@@ -136,7 +160,7 @@ comments-plain style end names [] = refl
 comments-plain style end names (t ∷ ts) =
     ap (λ (cs : List ℕ). cs ++ comments (plain_view style end) names ts) (comment-plain style end names t.kind) ∙ comments-plain style end names ts
 
-changed-plain : (style : Style) (end : ℕ) (names : Answers) (ts : List Token) → ((a : ℕ) → names a ≡ None)
+changed-plain : (style : Style) (end : ℕ) (names : Answers) (ts : List Token) → AreUnasked names ts
     → changed (plain_view style end) names ts ≡ joined ts
 unfolding changed
 changed-plain style end names ts h =
@@ -146,8 +170,13 @@ changed-plain style end names ts h =
 
 -- ---- the whole text
 
--- the text by the default options and no symbols is the printer's
+-- the text by the default options is the printer's, if no symbol is known of a number that is asked for
+pub unasked-text : (style : Style) (bits : Bits) (instr : Instr) (end : ℕ) (names : Answers) → AreUnasked names (pieces_of style bits instr)
+    → text_by style default_options bits instr end names ≡ text_of style bits instr
+unfolding text_by text_of_bytes front_text shown_instr view_of drops_sizes is_size_needless is_unsized pointer_of is_bare special_in
+unasked-text style bits instr end names h = changed-plain style end names (pieces_of style bits instr) h ∙ pieces-text style bits instr
+
+-- and so it is with no symbols
 pub default-text : (style : Style) (bits : Bits) (instr : Instr) (end : ℕ) (names : Answers) → ((a : ℕ) → names a ≡ None)
     → text_by style default_options bits instr end names ≡ text_of style bits instr
-unfolding text_by view_of drops_sizes pointer_of
-default-text style bits instr end names h = changed-plain style end names (pieces_of style bits instr) h ∙ pieces-text style bits instr
+default-text style bits instr end names h = unasked-text style bits instr end names (none-asked names (pieces_of style bits instr) h)

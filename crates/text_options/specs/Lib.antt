@@ -4,9 +4,15 @@ pub mod Kept
 pub mod Spelling
 pub mod Signed
 pub mod Sizes
+pub mod GnuForms
+pub mod GnuPrefixes
+pub mod GnuEffects
+pub mod GnuFront
+pub mod GnuPieces
 pub mod Views
 pub mod Values
 pub mod Symbolic
 pub mod Parts
 pub mod Placed
 pub mod Changed
+pub mod Unnamed

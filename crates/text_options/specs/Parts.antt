@@ -1,21 +1,29 @@
 -- The text of each piece, and of all.
-use Rattle.std.specs.Prelude.{ℕ, ◌+◌, ◌-◌, Bool, is_some, if◌then◌else◌, List, [], ◌∷◌, ◌++◌, length, replicate}
+use Rattle.std.specs.Prelude.{ℕ, ◌+◌, ◌-◌, Bool, true, false, ◌&&◌, is_some, if◌then◌else◌, List, [], ◌∷◌, ◌++◌, length, replicate, Option, Some, None, codes}
+use Rattle.text_parts.specs.declared.style.Style.{Style}
+use Rattle.text_parts.specs.declared.style.Style.TheVariants.{Att}
 use Rattle.text_pieces.specs.declared.piece.Kind.{Kind}
 use Rattle.text_pieces.specs.declared.piece.Kind.TheVariants as kind
 use Rattle.text_pieces.specs.Tokens.{Token}
 use Rattle.text_options.specs.declared.options.Commas.TheVariants.{Spaced, Tight}
 use Rattle.text_options.specs.declared.behind.Behind.{Behind}
-use Rattle.text_options.specs.declared.behind.Behind.TheVariants.{Other, Name, Mark, SizeWord, RelativeWord}
+use Rattle.text_options.specs.declared.behind.Behind.TheVariants.{Other, Name, Register, Mark, SizeWord, RelativeWord}
 use Rattle.text_options.specs.declared.view.View.{View}
 use Rattle.text_options.specs.Answers.{Answers}
 use Rattle.text_options.specs.Spelling.{spelled}
+use Rattle.text_options.specs.Values.{digits}
 use Rattle.text_options.specs.Symbolic.{asked, resolved, noted}
+use Rattle.text_options.specs.declared.gnu_pieces.Change.{Change}
+use Rattle.text_options.specs.declared.gnu_pieces.Change.TheVariants.{Keep, Drop, One, Top, Port, Value}
+use Rattle.text_options.specs.GnuPieces.{gnu_change}
+use Rattle.text_options.specs.GnuFront.{port}
 
 -- ---- what stands in front
 
 -- what the piece behind a piece of this kind stands behind: a keyword inside brackets is the word of a relative address, any other is of a size
 unfoldable pub after : Behind → Kind → Behind
 after behind kind.Mnemonic = Name
+after behind kind.Register = Register
 after behind kind.Punctuation = Mark
 after Mark kind.Keyword = RelativeWord
 after behind kind.Keyword = SizeWord
@@ -41,7 +49,7 @@ space_text view end Name cs = gap view end cs
 space_text view end Mark cs = comma_space view cs
 space_text view end SizeWord cs = unless view.drops_sizes cs
 space_text view end RelativeWord cs = unless (is_some view.pointer) cs
-space_text view end Other cs = cs
+space_text view end _ cs = cs
 
 -- a keyword is left out, by what it stands behind
 unfoldable pub drops_keyword : View → Behind → Bool
@@ -61,6 +69,38 @@ piece_text view names end behind kind.Keyword cs = keyword_text view behind cs
 piece_text view names end behind kind.Space cs = space_text view end behind cs
 piece_text view names end behind kind cs = spelled view.options.letters kind cs
 
+-- a mark that is not the colon behind a segment
+unfoldable pub is_bracket : Behind → Bool
+is_bracket Register = false
+is_bracket _ = true
+
+-- the piece is a bracket of an address that has none: a mark of its operand that is not the colon behind the segment
+unfoldable pub is_bare_bracket : View → Behind → Option ℕ → Kind → Bool
+is_bare_bracket view behind operand kind.Punctuation = view.bare && (is_bracket behind && is_some operand)
+is_bare_bracket view behind operand _ = false
+
+-- what becomes of a piece: it is written by its kind, unless the address has no brackets or the names are GNU's
+unfoldable pub change_of : View → Behind → Option ℕ → Kind → Change
+change_of view behind operand kind =
+    if is_bare_bracket view behind operand kind then Drop
+    else (elim view.special [ None ↦ Keep | Some special ↦ gnu_change special view.style behind operand kind ])
+
+-- the top of the x87 stack as GNU writes it
+unfoldable pub top_name : Style → List ℕ
+top_name Att = codes "%st"
+top_name _ = codes "st"
+
+-- the text of a piece, as it is changed
+unfoldable pub changed_piece : View → Answers → ℕ → Behind → Option ℕ → Kind → List ℕ → List ℕ
+changed_piece view names end behind operand k cs = elim (change_of view behind operand k) [
+  | Keep ↦ piece_text view names end behind k cs
+  | Drop ↦ []
+  | One ↦ codes "1"
+  | Top ↦ spelled view.options.letters kind.Register (top_name view.style)
+  | Port ↦ port view.style view.options.letters
+  | Value n ↦ digits view n
+]
+
 -- the comment of a piece
 unfoldable pub comment : View → Answers → Kind → List ℕ
 comment view names (kind.Number x) = noted view x (asked names x)
@@ -70,7 +110,7 @@ comment view names _ = []
 unfoldable pub from_place : View → Answers → ℕ → Behind → List Token → List ℕ
 from_place view names at behind [] = []
 from_place view names at behind (t ∷ ts) =
-    piece_text view names (at + length t.characters) behind t.kind t.characters
+    changed_piece view names (at + length t.characters) behind t.operand t.kind t.characters
     ++ from_place view names (at + length t.characters) (after behind t.kind) ts
 
 -- the comments of pieces

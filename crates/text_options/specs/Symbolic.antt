@@ -1,10 +1,11 @@
 -- How symbols are written.
-use Rattle.std.specs.Prelude.{ℕ, false, ◌==◌, if◌then◌else◌, List, [], ◌++◌, Option, Some, None, codes}
+use Rattle.std.specs.Prelude.{ℕ, Bool, false, ◌==◌, is_some, if◌then◌else◌, List, [], ◌++◌, replicate, Option, Some, None, codes}
 use Rattle.text_parts.specs.Numbers.{hexadecimal}
 use Rattle.text_pieces.specs.declared.piece.Role.TheVariants as role
 use Rattle.text_pieces.specs.declared.piece.Number.{Number}
 use Rattle.text_options.specs.declared.options.SymbolPlace.{SymbolPlace}
 use Rattle.text_options.specs.declared.options.SymbolPlace.TheVariants.{Instead, Behind, Comment, BehindOrComment}
+use Rattle.text_options.specs.declared.options.Comments.TheVariants.{Named, Distances}
 use Rattle.text_options.specs.declared.view.View.{View}
 use Rattle.text_options.specs.Answers.{Answer, Answers}
 use Rattle.text_options.specs.Values.{digits, pointer_front, value}
@@ -48,10 +49,22 @@ unfoldable pub resolved : View → Number → List ℕ → Option Answer → Lis
 resolved view x cs None = value view x cs
 resolved view x cs (Some s) = named view x cs s
 
--- the comment of an address: the address and its symbol, if there is one
+-- the spaces and the address that a comment begins with
+unfoldable pub noted_address : View → Number → List ℕ
+noted_address view x = replicate view.options.comment_gap 32 ++ (codes "# " ++ hexadecimal x.value)
+
+-- an address has a comment although it has no symbol: the options say so, and it is written as a distance
+unfoldable pub notes_distance : View → Bool
+notes_distance view = elim view.options.comments [ Named ↦ false | Distances ↦ is_some view.pointer ]
+
+-- the comment of an address without a symbol
+unfoldable pub noted_distance : View → Number → List ℕ
+noted_distance view x = if notes_distance view then noted_address view x else []
+
+-- the comment of an address: the address, and its symbol if there is one
 unfoldable pub noted_symbol : View → Number → Option Answer → List ℕ
-noted_symbol view x None = []
-noted_symbol view x (Some s) = codes "  # " ++ (hexadecimal x.value ++ (codes " " ++ in_brackets view s))
+noted_symbol view x None = noted_distance view x
+noted_symbol view x (Some s) = noted_address view x ++ (codes " " ++ in_brackets view s)
 
 -- the comment of a number, where its symbol belongs into one
 unfoldable pub noted : View → Number → Option Answer → List ℕ

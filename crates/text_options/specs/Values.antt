@@ -1,5 +1,5 @@
 -- How the numbers of a text are written.
-use Rattle.std.specs.Prelude.{ℕ, Bool, if◌then◌else◌, List, [], ◌++◌, Some, None, decimal, codes}
+use Rattle.std.specs.Prelude.{ℕ, Bool, false, if◌then◌else◌, List, [], ◌++◌, Some, None, decimal, codes}
 use Rattle.x86_values.specs.declared.Register.{Register as Reg}
 use Rattle.text_parts.specs.declared.style.Style.{Style}
 use Rattle.text_parts.specs.declared.style.Style.TheVariants.{Intel, Masm, Att}
@@ -11,10 +11,11 @@ use Rattle.text_pieces.specs.declared.piece.Role.TheVariants as role
 use Rattle.text_pieces.specs.declared.piece.Number.{Number}
 use Rattle.text_options.specs.declared.options.Digits.{Digits}
 use Rattle.text_options.specs.declared.options.Digits.TheVariants.{OfStyle, Prefixed, Suffixed, Decimal}
-use Rattle.text_options.specs.declared.options.Immediates.TheVariants.{Unsigned, Signed}
+use Rattle.text_options.specs.declared.options.Immediates.TheVariants as immediates
+use Rattle.text_options.specs.declared.options.Distances.TheVariants.{Signed, Wrapped}
 use Rattle.text_options.specs.declared.view.View.{View}
 use Rattle.text_options.specs.Spelling.{capitals, last_digit, spelled}
-use Rattle.text_options.specs.Signed.{is_below_zero, distance, difference}
+use Rattle.text_options.specs.Signed.{is_below_zero, distance, low, difference}
 
 -- a number in the digits of the options
 unfoldable pub in_digits : Digits → Style → ℕ → List ℕ
@@ -42,7 +43,7 @@ signed view x cs =
 
 -- an immediate
 unfoldable pub immediate : View → Number → List ℕ → List ℕ
-immediate view x cs = elim view.options.immediates [ Signed ↦ signed view x cs | Unsigned ↦ plain view x cs ]
+immediate view x cs = elim view.options.immediates [ immediates.Signed ↦ signed view x cs | immediates.Unsigned ↦ plain view x cs ]
 
 -- the instruction pointer in front of a distance or a symbol; in AT&T it stands behind
 unfoldable pub pointer_name : View → Reg → List ℕ
@@ -56,10 +57,20 @@ pointer_front view r negative = pointer_name view r ++ sign view.style negative
 abbrev pub gap : View → Number → ℕ
 gap view x = difference x.value view.end
 
+-- the instruction pointer and a distance with its sign
+unfoldable pub signed_distance : View → Reg → ℕ → ℕ → List ℕ
+signed_distance view r width n = pointer_front view r (is_below_zero width n) ++ digits view (distance width n)
+
+-- the instruction pointer and a distance as a number without a sign
+unfoldable pub wrapped_distance : View → Reg → ℕ → ℕ → List ℕ
+wrapped_distance view r width n = pointer_front view r false ++ digits view (low width n)
+
 -- an address as a distance from the instruction pointer
 unfoldable pub by_distance : View → Reg → Number → List ℕ
-by_distance view r x =
-    pointer_front view r (is_below_zero x.width (gap view x)) ++ digits view (distance x.width (gap view x))
+by_distance view r x = elim view.options.distances [
+  | Signed ↦ signed_distance view r x.width (gap view x)
+  | Wrapped ↦ wrapped_distance view r x.width (gap view x)
+]
 
 -- an address
 unfoldable pub address : View → Number → List ℕ → List ℕ

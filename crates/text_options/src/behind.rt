@@ -12,6 +12,8 @@ pub enum Behind {
     Other,
     /// The name of the instruction.
     Name,
+    /// A register.
+    Register,
     /// A comma, a colon, a bracket or a parenthesis.
     Mark,
     /// A word of a size.
@@ -27,6 +29,7 @@ pub fn after(behind: Behind, kind: Kind) -> Behind
 {
     match kind {
         Kind::Mnemonic => Behind::Name,
+        Kind::Register => Behind::Register,
         Kind::Punctuation => Behind::Mark,
         Kind::Keyword => match behind {
             Behind::Mark => Behind::RelativeWord,

@@ -79,6 +79,42 @@ pub enum SymbolPlace {
     BehindOrComment,
 }
 
+/// Whose names, letters and prefix words a text has.
+#[derive(Clone, Copy, PartialEq, Eq, Debug)]
+pub enum Names {
+    /// Those of the printers: the manual's names.
+    Manual,
+    /// GNU's. They come with its operands: those of string instructions, `st`, `(%dx)`, and 1 as the count of a shift that has it in its opcode.
+    Gnu,
+}
+
+/// How a distance below zero is written.
+#[derive(Clone, Copy, PartialEq, Eq, Debug)]
+pub enum Distances {
+    /// With a minus: `[rip-0x2489]`.
+    Signed,
+    /// As a number without a sign: `[rip+0xffffffffffffdb77]`.
+    Wrapped,
+}
+
+/// How an address with neither base nor index is written, in the styles with brackets.
+#[derive(Clone, Copy, PartialEq, Eq, Debug)]
+pub enum Absolutes {
+    /// In brackets: `fs:[0x28]`.
+    Bracketed,
+    /// Alone: `fs:0x28`.
+    Bare,
+}
+
+/// Which addresses have a comment, where symbols are written in comments.
+#[derive(Clone, Copy, PartialEq, Eq, Debug)]
+pub enum Comments {
+    /// Those with a symbol.
+    Named,
+    /// Those with a symbol, and those that are written as a distance.
+    Distances,
+}
+
 /// How a text is written. The default is the text that the printer of the style gives.
 #[derive(Clone, Copy, PartialEq, Eq, Debug)]
 pub struct Options {
@@ -91,10 +127,16 @@ pub struct Options {
     pub operand_column: u8,
     pub rip_operands: RipOperands,
     pub symbol_place: SymbolPlace,
+    pub names: Names,
+    pub distances: Distances,
+    pub absolutes: Absolutes,
+    pub comments: Comments,
+    /// The number of spaces in front of a comment.
+    pub comment_gap: u8,
 }
 
 impl Options {
-    /// What GNU objdump and GDB write: with `Style::Masm` under `-M intel`, and with `Style::Att` by default. docs/texts.md says what differs.
+    /// What GNU objdump and GDB write under `-M intel`, with `Style::Masm`. docs/texts.md says what differs.
     pub const GNU: Options = Options {
         letters: Letters::UpperKeywords,
         digits: Digits::Prefixed,
@@ -104,6 +146,17 @@ impl Options {
         operand_column: 7,
         rip_operands: RipOperands::Distance,
         symbol_place: SymbolPlace::BehindOrComment,
+        names: Names::Gnu,
+        distances: Distances::Wrapped,
+        absolutes: Absolutes::Bare,
+        comments: Comments::Distances,
+        comment_gap: 8,
+    };
+
+    /// What GNU objdump and GDB write in AT&T, with `Style::Att`. docs/texts.md says what differs.
+    pub const GNU_ATT: Options = Options {
+        distances: Distances::Signed,
+        ..Options::GNU
     };
 }
 
@@ -122,6 +175,11 @@ impl Default for Options {
             operand_column: 0,
             rip_operands: RipOperands::Address,
             symbol_place: SymbolPlace::Behind,
+            names: Names::Manual,
+            distances: Distances::Signed,
+            absolutes: Absolutes::Bracketed,
+            comments: Comments::Named,
+            comment_gap: 2,
         }
     }
 }

@@ -1,27 +1,21 @@
 //! The text of each piece.
 
-ghost use Rattle.std.specs.Prelude.{◌≡◌, ◌+◌, ◌≤◌, ◌++◌, ℕ, length, replicate, OnOk};
+ghost use Rattle.std.specs.Prelude.{◌≡◌, ◌++◌, OnOk};
 ghost use Rattle.text_options.specs.Kept.{Kept};
 ghost use Rattle.text_options.specs.Parts as spec;
 
 use crate::behind::Behind;
+use crate::gnu_front::append_port;
+use crate::gnu_pieces::{Change, gnu_change};
 use crate::options::Commas;
-use crate::spelling::append_spelled;
+use crate::spelling::{append_spelled, spaces};
 use crate::symbolic::{append_note, append_resolved};
 use crate::symbols::Symbols;
+use crate::values::append_digits;
 use crate::view::View;
 use std::alloc::AllocError;
+use text_parts::style::Style;
 use text_pieces::piece::Kind;
-
-/// Spaces, as many as a column can be away.
-static SPACES: [u8; 256] = [b' '; 256];
-
-/// So many spaces.
-fn spaces(n: u8) -> &'static [u8]
-    ensures { result.now ≡ replicate n 32 }
-{
-    &SPACES[..usize::from(n)]
-}
 
 /// Appends a space behind the name, filled up to the column of the first operand. Under `Err` a part of it may be appended.
 #[tactic(auto, unfolding(crate::specs::Parts::gap), using(crate::proofs::Kept::kept_rules))]
@@ -75,7 +69,7 @@ fn append_space(
         Behind::Mark => append_comma_space(out, view, characters),
         Behind::SizeWord => append_unless(out, view.drops_sizes, characters),
         Behind::RelativeWord => append_unless(out, view.pointer.is_some(), characters),
-        Behind::Other => out.extend_from_slice(characters),
+        Behind::Other | Behind::Register => out.extend_from_slice(characters),
     }
 }
 
@@ -111,7 +105,7 @@ fn append_keyword(
 
 /// Appends the text of a piece that ends at a place and follows another. Under `Err` a part of it may be appended.
 #[tactic(auto, unfolding(crate::specs::Parts::piece_text), using(crate::proofs::Kept::kept_rules))]
-pub fn append_piece<S: Symbols>(
+fn append_piece<S: Symbols>(
     out: &mut Vec<u8>,
     view: &View,
     symbols: &S,
@@ -129,6 +123,83 @@ pub fn append_piece<S: Symbols>(
         Kind::Keyword => append_keyword(out, view, behind, characters),
         Kind::Space => append_space(out, view, end, behind, characters),
         _ => append_spelled(out, view.options.letters, *kind, characters),
+    }
+}
+
+/// Whether a mark is not the colon behind a segment.
+#[inline]
+#[tactic(auto, unfolding(crate::specs::Parts::is_bracket))]
+fn is_bracket(behind: Behind) -> bool
+    ensures { result ≡ spec.is_bracket behind }
+{
+    !matches!(behind, Behind::Register)
+}
+
+/// Whether a piece is a bracket of an address that has none: a mark of its operand that is not the colon behind the segment.
+#[tactic(auto, unfolding(crate::specs::Parts::is_bare_bracket))]
+fn is_bare_bracket(view: &View, behind: Behind, operand: Option<u8>, kind: &Kind) -> bool
+    ensures { result ≡ spec.is_bare_bracket view.now behind operand kind.now }
+{
+    match kind {
+        Kind::Punctuation => view.bare && is_bracket(behind) && operand.is_some(),
+        _ => false,
+    }
+}
+
+/// What becomes of a piece.
+#[tactic(auto, unfolding(crate::specs::Parts::change_of))]
+fn change_of(view: &View, behind: Behind, operand: Option<u8>, kind: &Kind) -> Change
+    ensures { result ≡ spec.change_of view.now behind operand kind.now }
+{
+    if is_bare_bracket(view, behind, operand, kind) {
+        return Change::Drop;
+    }
+    match view.special {
+        None => Change::Keep,
+        Some(special) => gnu_change(&special, view.style, behind, operand, kind),
+    }
+}
+
+/// The top of the x87 stack as GNU writes it.
+#[inline]
+#[tactic(auto, unfolding(crate::specs::Parts::top_name))]
+fn top_name(style: Style) -> &'static [u8]
+    ensures { result.now ≡ spec.top_name style }
+{
+    match style {
+        Style::Att => b"%st",
+        _ => b"st",
+    }
+}
+
+/// Appends the text of a piece, as it is changed. Under `Err` a part of it may be appended.
+#[tactic(auto, unfolding(crate::specs::Parts::changed_piece), using(crate::proofs::Kept::kept_rules))]
+pub fn append_changed_piece<S: Symbols>(
+    out: &mut Vec<u8>,
+    view: &View,
+    symbols: &S,
+    end: u8,
+    behind: Behind,
+    operand: Option<u8>,
+    kind: &Kind,
+    characters: &[u8],
+) -> Result<(), AllocError>
+    ensures done { OnOk result (out.new.items ≡ out.old.items
+        ++ spec.changed_piece view.now (S.names symbols.now) end behind operand kind.now characters.now) }
+    ensures kept { Kept out.old.items out.new.items }
+{
+    match change_of(view, behind, operand, kind) {
+        Change::Keep => append_piece(out, view, symbols, end, behind, kind, characters),
+        Change::Drop => Ok(()),
+        Change::One => out.extend_from_slice(b"1"),
+        Change::Top => append_spelled(
+            out,
+            view.options.letters,
+            Kind::Register,
+            top_name(view.style),
+        ),
+        Change::Port => append_port(out, view.style, view.options.letters),
+        Change::Value(n) => append_digits(out, view.options.digits, view.style, n),
     }
 }
 

@@ -6,7 +6,7 @@ ghost use Rattle.text_options.specs.Kept.{Kept};
 ghost use Rattle.text_options.specs.Placed as spec;
 
 use crate::behind::{Behind, after};
-use crate::parts::{append_comment, append_piece};
+use crate::parts::{append_changed_piece, append_comment};
 use crate::symbols::Symbols;
 use crate::view::View;
 use std::alloc::AllocError;
@@ -41,12 +41,13 @@ pub fn append_pieces<S: Symbols>(
     match pieces {
         [] => Ok(()),
         [p, rest @ ..] => {
-            append_piece(
+            append_changed_piece(
                 out,
                 view,
                 symbols,
                 p.end,
                 behind,
+                p.operand,
                 &p.kind,
                 characters_of(text, p),
             )?;

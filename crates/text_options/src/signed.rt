@@ -19,10 +19,10 @@ fn sign_bit(width: u8) -> u64
     }
 }
 
-/// The low bytes of a number, so many of them.
+/// Returns the low bytes of a number, so many of them.
 #[inline]
 #[tactic(auto, unfolding(crate::specs::Signed::low))]
-fn low(width: u8, n: u64) -> u64
+pub fn low(width: u8, n: u64) -> u64
     ensures value { result ≡ spec.low width n }
     ensures small { result < 2 * spec.sign_bit width }
 {

@@ -1,12 +1,22 @@
 //! Letters in upper case.
 
-ghost use Rattle.std.specs.Prelude.{◌≡◌, ◌++◌, OnOk};
+ghost use Rattle.std.specs.Prelude.{◌≡◌, ◌++◌, replicate, OnOk};
 ghost use Rattle.text_options.specs.Kept.{Kept};
 ghost use Rattle.text_options.specs.Spelling as spec;
 
 use crate::options::Letters;
 use std::alloc::AllocError;
 use text_pieces::piece::Kind;
+
+/// Spaces, as many as a column can be away.
+static SPACES: [u8; 256] = [b' '; 256];
+
+/// Returns so many spaces.
+pub fn spaces(n: u8) -> &'static [u8]
+    ensures { result.now ≡ replicate n 32 }
+{
+    &SPACES[..usize::from(n)]
+}
 
 /// A small letter up to a last one as its capital, and any other byte as it is.
 #[inline]

@@ -6,7 +6,8 @@ ghost use Rattle.text_options.specs.Answers.{answer};
 ghost use Rattle.text_options.specs.Kept.{Kept};
 ghost use Rattle.text_options.specs.Symbolic as spec;
 
-use crate::options::SymbolPlace;
+use crate::options::{Comments, SymbolPlace};
+use crate::spelling::spaces;
 use crate::symbols::{Symbol, Symbols};
 use crate::values::{append_digits, append_pointer_front, append_value};
 use crate::view::View;
@@ -136,6 +137,41 @@ fn address_text(address: u64) -> ArrayVec<u8, 16>
     text
 }
 
+/// Appends the spaces and the address that a comment begins with. Under `Err` a part of them may be appended.
+#[tactic(auto, unfolding(crate::specs::Symbolic::noted_address), using(crate::proofs::Kept::kept_rules))]
+fn append_noted_address(out: &mut Vec<u8>, view: &View, x: &Number) -> Result<(), AllocError>
+    ensures done { OnOk result (out.new.items ≡ out.old.items ++ spec.noted_address view.now x.now) }
+    ensures kept { Kept out.old.items out.new.items }
+{
+    out.extend_from_slice(spaces(view.options.comment_gap))?;
+    out.extend_from_slice(b"# ")?;
+    out.extend_from_slice(&address_text(x.value))
+}
+
+/// Whether an address has a comment although it has no symbol.
+#[tactic(auto, unfolding(crate::specs::Symbolic::notes_distance))]
+fn notes_distance(view: &View) -> bool
+    ensures { result ≡ spec.notes_distance view.now }
+{
+    match view.options.comments {
+        Comments::Named => false,
+        Comments::Distances => view.pointer.is_some(),
+    }
+}
+
+/// Appends the comment of an address without a symbol, if it has one. Under `Err` a part of it may be appended.
+#[tactic(auto, unfolding(crate::specs::Symbolic::noted_distance), using(crate::proofs::Kept::kept_rules))]
+fn append_noted_distance(out: &mut Vec<u8>, view: &View, x: &Number) -> Result<(), AllocError>
+    ensures done { OnOk result (out.new.items ≡ out.old.items ++ spec.noted_distance view.now x.now) }
+    ensures kept { Kept out.old.items out.new.items }
+{
+    if notes_distance(view) {
+        append_noted_address(out, view, x)
+    } else {
+        Ok(())
+    }
+}
+
 /// Appends the comment of an address: the address and its symbol. Under `Err` a part of it may be appended.
 #[tactic(auto, unfolding(crate::specs::Symbolic::noted_symbol), using(crate::proofs::Kept::kept_rules))]
 fn append_noted_symbol(
@@ -147,13 +183,12 @@ fn append_noted_symbol(
     ensures done { OnOk result (out.new.items ≡ out.old.items ++ spec.noted_symbol view.now x.now (Some (answer s.now))) }
     ensures kept { Kept out.old.items out.new.items }
 {
-    out.extend_from_slice(b"  # ")?;
-    out.extend_from_slice(&address_text(x.value))?;
+    append_noted_address(out, view, x)?;
     out.extend_from_slice(b" ")?;
     append_in_brackets(out, view, s)
 }
 
-/// Appends the comment of an address, if the resolver knows its symbol. Under `Err` a part of it may be appended.
+/// Appends the comment of an address, by what the resolver knows. Under `Err` a part of it may be appended.
 #[tactic(auto, unfolding(crate::specs::Symbolic::noted_symbol), using(crate::proofs::Kept::kept_rules))]
 fn append_known<S: Symbols>(
     out: &mut Vec<u8>,
@@ -166,7 +201,7 @@ fn append_known<S: Symbols>(
     ensures kept { Kept out.old.items out.new.items }
 {
     match ask(symbols, x) {
-        None => Ok(()),
+        None => append_noted_distance(out, view, x),
         Some(s) => append_noted_symbol(out, view, x, &s),
     }
 }

@@ -6,8 +6,8 @@ ghost use Rattle.text_parts.specs.Addresses as addresses;
 ghost use Rattle.text_options.specs.Kept.{Kept};
 ghost use Rattle.text_options.specs.Values as spec;
 
-use crate::options::{Digits, Immediates};
-use crate::signed::{distance, is_below_zero};
+use crate::options::{Digits, Distances, Immediates};
+use crate::signed::{distance, is_below_zero, low};
 use crate::spelling::{append_capitals, append_spelled};
 use crate::view::View;
 use arrayvec::ArrayVec;
@@ -179,6 +179,38 @@ pub fn append_pointer_front(
     out.extend_from_slice(sign(view.style, negative))
 }
 
+/// Appends the instruction pointer and a distance with its sign. Under `Err` a part of it may be appended.
+#[tactic(auto, unfolding(crate::specs::Values::signed_distance), using(crate::proofs::Kept::kept_rules))]
+fn append_signed_distance(
+    out: &mut Vec<u8>,
+    view: &View,
+    r: Register,
+    width: u8,
+    gap: u64,
+) -> Result<(), AllocError>
+    ensures done { OnOk result (out.new.items ≡ out.old.items ++ spec.signed_distance view.now r width gap) }
+    ensures kept { Kept out.old.items out.new.items }
+{
+    append_pointer_front(out, view, r, is_below_zero(width, gap))?;
+    append_digits(out, view.options.digits, view.style, distance(width, gap))
+}
+
+/// Appends the instruction pointer and a distance as a number without a sign. Under `Err` a part of it may be appended.
+#[tactic(auto, unfolding(crate::specs::Values::wrapped_distance), using(crate::proofs::Kept::kept_rules))]
+fn append_wrapped_distance(
+    out: &mut Vec<u8>,
+    view: &View,
+    r: Register,
+    width: u8,
+    gap: u64,
+) -> Result<(), AllocError>
+    ensures done { OnOk result (out.new.items ≡ out.old.items ++ spec.wrapped_distance view.now r width gap) }
+    ensures kept { Kept out.old.items out.new.items }
+{
+    append_pointer_front(out, view, r, false)?;
+    append_digits(out, view.options.digits, view.style, low(width, gap))
+}
+
 /// Appends an address as a distance from the instruction pointer. Under `Err` a part of it may be appended.
 #[tactic(auto, unfolding(crate::specs::Values::by_distance), using(crate::proofs::Kept::kept_rules))]
 fn append_by_distance(
@@ -191,8 +223,10 @@ fn append_by_distance(
     ensures kept { Kept out.old.items out.new.items }
 {
     let gap = x.value.wrapping_sub(view.end);
-    append_pointer_front(out, view, r, is_below_zero(x.width, gap))?;
-    append_digits(out, view.options.digits, view.style, distance(x.width, gap))
+    match view.options.distances {
+        Distances::Signed => append_signed_distance(out, view, r, x.width, gap),
+        Distances::Wrapped => append_wrapped_distance(out, view, r, x.width, gap),
+    }
 }
 
 /// Appends an address. Under `Err` a part of it may be appended.

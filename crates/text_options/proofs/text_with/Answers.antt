@@ -1,18 +1,19 @@
-use Rattle.std.proofs.Common.{◌≡◌, map}
+use Rattle.std.proofs.Common.{◌≡◌, ℕ, true, List, ◌++◌, ap, sym, ◌∙◌}
 use Rattle.std.proofs.lemmas.Result.{on_ok_weaker}
-use Rattle.text_pieces.specs.Tokens.{placed, characters_at}
-use Rattle.text_pieces.specs.Pieces.{pieces_of, text_of}
-use Rattle.text_options.proofs.Placed.{whole-text}
+use Rattle.text_options.specs.declared.options.Options.{Options}
+use Rattle.text_options.specs.Defaults.{default_options}
+use Rattle.text_options.specs.Unnamed.{are_unnamed}
+use Rattle.text_options.specs.Changed.{text_by}
+use Rattle.text_options.proofs.Quiet.{unnamed-text}
 use Rattle.text_options.proofs.text_with.Goals as goal
 
-pub returns-clause-done : goal.returns-clause-done
-returns-clause-done g c =
-    let text : c.deref.result.now ≡ text_of c.args.style c.args.bits c.args.instr.now = cc in
-    let items : c.deref-2.result.now ≡ placed 0 (pieces_of c.args.style c.args.bits c.args.instr.now) = cc in
-    let own : map (characters_at (text_of c.args.style c.args.bits c.args.instr.now)) c.deref-2.result.now ≡ map (λ t. t.characters) (pieces_of c.args.style c.args.bits c.args.instr.now) = cc in
-    let again : c.deref-3.result.now ≡ c.deref-2.result.now = cc in
-    on_ok_weaker c.append_comments.result
-    (whole-text c.args.style c.args.options.now c.args.bits c.args.instr.now c.args.end (g.S.Symbols.names c.args.symbols.now) c.view_of-view.result
-    c.args.out.now.items c.append_pieces.new.out.items c.append_comments.new.out.items c.deref.result.now c.deref-2.result.now c.deref-3.result.now
-    c.view_of-view.ensures text items own again c.in_ok-append_pieces.ensures.done)
-    c.append_comments.ensures.done
+pub returns-then-are_unnamed-clause-done : goal.returns-then-are_unnamed-clause-done
+returns-then-are_unnamed-clause-done g c =
+    let names = g.S.Symbols.names c.args.symbols.now in
+    let plain : c.args.options.now ≡ default_options = c.is_default.ensures c.if-is_default.true in
+    let quiet : are_unnamed names c.args.instr.now ≡ true = cc in
+    on_ok_weaker c.append_printed.result
+    (λ done. done ∙ sym (ap (λ (t : List ℕ). c.args.out.now.items ++ t)
+        (ap (λ (o : Options). text_by c.args.style o c.args.bits c.args.instr.now c.args.end names) plain
+        ∙ unnamed-text c.args.style c.args.bits c.args.instr.now c.args.end names quiet)))
+    c.append_printed.ensures.done

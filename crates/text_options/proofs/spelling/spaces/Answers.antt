@@ -1,6 +1,6 @@
 use Rattle.std.proofs.Common.{◌≡◌, ℕ, ◌≤◌, replicate, ap, ◌∙◌, arith}
 use Rattle.std.proofs.lemmas.List.{take-replicate}
-use Rattle.text_options.proofs.parts.spaces.Goals as goal
+use Rattle.text_options.proofs.spelling.spaces.Goals as goal
 
 pub returns : goal.returns
 returns c =
