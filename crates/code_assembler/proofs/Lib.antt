@@ -5,7 +5,3 @@ pub mod StandIn
 pub mod Four
 pub mod Placing
 pub mod AtLabels
-pub mod Cutting
-pub mod Trims
-pub mod Telling
-pub mod Going

@@ -9,7 +9,7 @@ use Rattle.move_goals.specs.declared.items.Placed.{Placed}
 use Rattle.code_assembler.specs.declared.error.BuildError.{BuildError}
 use Rattle.code_assembler.specs.declared.error.BuildError.TheVariants.{TooMany, Unknown, PlacedTwice, NoTarget, NotEncoded}
 use Rattle.code_assembler.specs.StandIn.{stand_in}
-use Rattle.code_assembler.specs.Routine.{RoutineState, label_place}
+use Rattle.code_assembler.specs.Routine.{RoutineState, no_lines, label_place}
 
 -- ---- labels
 
@@ -20,6 +20,14 @@ with_label s = record s { labels = s.labels ++ None ∷ [] }
 -- no label is made where there are 65,536
 abbrev pub label_refusal : RoutineState → Option BuildError
 label_refusal s = if nat_lt (length s.labels) 65536 then None else Some TooMany
+
+-- a routine with so many labels, and nothing else
+abbrev pub with_labels : Bits → ℕ → RoutineState
+with_labels bits count = record (no_lines bits) { labels = replicate count None }
+
+-- none is made with more than 65,536
+abbrev pub labels_refusal : ℕ → Option BuildError
+labels_refusal count = if nat_le count 65536 then None else Some TooMany
 
 -- a label stands behind the last item
 abbrev pub with_place : RoutineState → ℕ → RoutineState

@@ -4,5 +4,3 @@ pub mod Routine
 pub mod Built
 pub mod Filling
 pub mod Finished
-pub mod Lines
-pub mod Text

@@ -8,16 +8,11 @@ mod finishing;
 mod generated_codes;
 mod label;
 mod laws_below;
-mod line;
 mod lists;
 mod routine;
 mod stand_in;
-mod text;
-mod text_error;
 
 pub use assembled::Assembled;
 pub use error::{BuildError, FinishError};
 pub use label::Label;
 pub use routine::Assembler;
-pub use text::assemble_code;
-pub use text_error::{AssembleError, LineError};

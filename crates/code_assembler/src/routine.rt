@@ -1,12 +1,12 @@
 //! Routines as they are put together.
 
-ghost use Rattle.std.specs.Prelude.{◌≡◌, ◌⊎◌, ◌<◌, ◌≤◌, ◌+◌, ◌++◌, [], ◌∷◌, IfOk, IfErr, IfSome, OnOk, OnErr, Err, Some, None, length, map, replicate, vec_len, vec_capacity};
+ghost use Rattle.std.specs.Prelude.{◌≡◌, ◌⊎◌, ◌<◌, ◌≤◌, ◌+◌, ◌++◌, [], ◌∷◌, IfOk, IfErr, IfSome, MatchOption, OnOk, OnErr, Err, Some, None, length, map, replicate, vec_len, vec_capacity};
 ghost use Rattle.encoder.specs.Encoding.{encoding};
 ghost use Rattle.move_goals.specs.Items.{IsPlaced};
 ghost use Rattle.code_assembler.specs.declared.error.BuildError.TheVariants.{Memory};
 ghost use Rattle.code_assembler.specs.Routine.{no_lines};
 ghost use Rattle.code_assembler.specs.Built as spec;
-ghost use Rattle.code_assembler.specs.Built.{with_label, with_place, with_item, with_bytes, label_refusal, place_refusal, push_refusal, bytes_refusal};
+ghost use Rattle.code_assembler.specs.Built.{with_label, with_labels, with_place, with_item, with_bytes, label_refusal, labels_refusal, place_refusal, push_refusal, bytes_refusal};
 
 use crate::assembled::place_of;
 use crate::error::BuildError;
@@ -137,6 +137,28 @@ impl Assembler {
         }
     }
 
+    /// Makes a routine for a mode with so many labels, none of which has a place.
+    ///
+    /// Errors: `TooMany` for more than 65,536; `Memory`.
+    pub fn with_labels(alloc: Global, bits: Bits, count: usize) -> Result<Assembler, BuildError>
+        ensures made { IfOk result (λ routine. routine ≡ with_labels bits count) }
+        ensures refused { IfSome (labels_refusal count) (λ why. result ≡ Err why) }
+        ensures cause { IfErr result (λ why. (labels_refusal count ≡ Some why) ⊎ (why ≡ Memory)) }
+    {
+        if count > MOST {
+            return Err(BuildError::TooMany);
+        }
+        let mut labels = Vec::with_capacity(alloc, count)?;
+        fill(&mut labels, count, None);
+        Ok(Assembler {
+            bits,
+            items: Vec::new(alloc),
+            aims: Vec::new(alloc),
+            filled: Vec::new(alloc),
+            labels,
+        })
+    }
+
     /// Returns the mode.
     pub fn bits(&self) -> Bits
         ensures { result ≡ self.now.bits }
@@ -149,6 +171,25 @@ impl Assembler {
         ensures { result ≡ length self.now.items }
     {
         self.items.len()
+    }
+
+    /// Returns how many labels there are.
+    pub fn label_count(&self) -> usize
+        ensures { result ≡ length self.now.labels }
+    {
+        self.labels.len()
+    }
+
+    /// Returns the label before which so many were made, if there is one.
+    pub fn label_at(&self, number: usize) -> Option<Label>
+        ensures { MatchOption result (length self.now.labels ≤ number) (λ label. (label.number ≡ number) × (number < length self.now.labels)) }
+    {
+        if number >= self.labels.len() {
+            return None;
+        }
+        Some(Label {
+            number: number as u32,
+        })
     }
 
     /// Makes a label without a place. Instructions can go to it before it has one.

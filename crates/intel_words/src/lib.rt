@@ -7,6 +7,6 @@ mod numbers;
 mod operands;
 mod prefixes;
 pub mod reading;
-mod registers;
+pub mod registers;
 mod scanning;
 pub mod words;

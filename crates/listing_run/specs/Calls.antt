@@ -4,8 +4,8 @@ use Rattle.x86_values.specs.declared.Bits.{Bits}
 use Rattle.byte_ports.specs.declared.failed.Failed.{Failed}
 use Rattle.sweep.specs.declared.sweep_text.lines.Lines.{Lines}
 use Rattle.sweep.specs.declared.sweep_text.lines.Lines.TheVariants.{Listing, Info as InfoLines, Recode as RecodeLines}
-use Rattle.command_words.specs.declared.commands.Command.{Command}
-use Rattle.command_words.specs.declared.commands.Command.TheVariants.{List as ListCommand, Info, Recode}
+use Rattle.moving_run.specs.declared.command_words.commands.Command.{Command}
+use Rattle.moving_run.specs.declared.command_words.commands.Command.TheVariants.{List as ListCommand, Info, Recode}
 use Rattle.sweep.specs.declared.run_parts.status.Status.{Status}
 use Rattle.sweep.specs.declared.error.StreamError.{StreamError}
 use Rattle.sweep.specs.Calls.{IsCalled}

@@ -1,7 +1,7 @@
 -- How much of its input a command takes.
 use Rattle.std.specs.Prelude.{ℕ}
-use Rattle.command_words.specs.declared.commands.Command.{Command}
-use Rattle.command_words.specs.declared.commands.Command.TheVariants.{List as ListCommand, Info, Recode, Flow, Asm, Move, Map, Blocks, Slots}
+use Rattle.moving_run.specs.declared.command_words.commands.Command.{Command}
+use Rattle.moving_run.specs.declared.command_words.commands.Command.TheVariants.{List as ListCommand, Info, Recode, Flow, Asm, Move, Map, Blocks, Slots}
 use Rattle.sweep.specs.RunParts.Reads.{code_limit, whole_limit}
 
 -- how many bytes a command reads at most

@@ -2,7 +2,7 @@
 
 ghost use Rattle.std.specs.Prelude.{◌≡◌, ◌↔◌, ◌≤◌, ℕ, List, Option};
 ghost use Rattle.byte_ports.specs.Ports.{Rose};
-ghost use Rattle.command_words.specs.Words.{command_of, texts};
+ghost use Rattle.moving_run.specs.CommandWords.Words.{command_of, texts};
 ghost use Rattle.sweep.specs.RunParts.StatusLine.{status_line};
 ghost use Rattle.sweep.specs.RunParts.Reads.{code_limit, whole_limit, Takes, EndsAtFault};
 ghost use Rattle.sweep.specs.RunParts.Writing.{Says};
@@ -12,14 +12,14 @@ ghost use Rattle.listing_run.specs.Outcome.{RunsAs, GoesThroughAs, WritesAs, Rea
 ghost use Rattle.listing_run.specs.Calls.{IsCalledThrough, IsCalledBy};
 ghost use Rattle.listing_run.specs.Taken.{limit_of};
 ghost use Rattle.moving_run.specs.Moving.{MovesAs, CompletesMoving};
-ghost use Rattle.command_words.specs.declared.commands.Command.TheVariants.{Wrong};
+ghost use Rattle.moving_run.specs.declared.command_words.commands.Command.TheVariants.{Wrong};
 
 use crate::asm_run::assemble_code;
 use crate::flow_run::flow_code;
 use crate::rows::write_rows;
 use crate::sample_run::sample;
 use byte_ports::{Sink, Source};
-use command_words::{BlockWords, Command, command_of};
+use moving_run::command_words::{BlockWords, Command, command_of};
 use moving_run::slots_run::slot_code;
 use moving_run::{Wanted, move_code};
 use std::alloc::Global;

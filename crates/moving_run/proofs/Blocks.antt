@@ -13,7 +13,7 @@ use Rattle.sweep.specs.SweepText.Lines.{error_of}
 use Rattle.branch_sizes.specs.declared.plan.BlockSpan.{BlockSpan}
 use Rattle.move_goals.specs.declared.items.Placed.{Placed}
 use Rattle.move_goals.specs.Items.{passes}
-use Rattle.command_words.specs.declared.commands.BlockWords.{BlockWords}
+use Rattle.moving_run.specs.declared.command_words.commands.BlockWords.{BlockWords}
 use Rattle.moving_run.specs.declared.code.Code.{Code}
 use Rattle.moving_run.specs.declared.code.CodeError.{CodeError}
 use Rattle.moving_run.specs.declared.code.CodeError.TheVariants.{BadCode, Memory}

@@ -1,7 +1,7 @@
 -- How a command that moves code ends when it meets no fault.
 use Rattle.std.proofs.Common.{inl, inr, ℕ, List, length, Option, Some, None, refl, sym, ap, subst, arith}
 use Rattle.x86_values.specs.declared.Bits.{Bits}
-use Rattle.command_words.specs.declared.commands.BlockWords.{BlockWords}
+use Rattle.moving_run.specs.declared.command_words.commands.BlockWords.{BlockWords}
 use Rattle.sweep.specs.declared.run_parts.status.Status.{Status}
 use Rattle.sweep.specs.declared.run_parts.status.Status.TheVariants.{Done, BadCode, ReadFault, WriteFault, Memory, TooLarge, Wraps, TooFar, TooMany}
 use Rattle.sweep.specs.RunParts.Facts.{ReadFacts}

@@ -1,3 +1,4 @@
+pub mod CommandWords
 pub mod Cutting
 pub mod Reading
 pub mod Blocks

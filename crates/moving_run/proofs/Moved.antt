@@ -7,7 +7,7 @@ use Rattle.move_goals.specs.Items.{AreSpansOf, ArePlaced, first_disorder}
 use Rattle.block_encoder.specs.declared.error.MoveError.{MoveError}
 use Rattle.block_encoder.specs.declared.error.MoveError.TheVariants as error
 use Rattle.block_encoder.specs.Moved.{MovedLists, IsMoved, IsRefused}
-use Rattle.command_words.specs.declared.commands.BlockWords.{BlockWords}
+use Rattle.moving_run.specs.declared.command_words.commands.BlockWords.{BlockWords}
 use Rattle.sweep.specs.declared.run_parts.status.Status.{Status}
 use Rattle.sweep.specs.declared.run_parts.status.Status.TheVariants.{BadCode, ReadFault, Memory, TooLarge, Wraps, TooFar, TooMany}
 use Rattle.sweep.specs.RunParts.Reads.{whole_limit, ReadsAll, IsUnread}

@@ -18,7 +18,7 @@ use Rattle.move_goals.specs.Plan.{plan_for}
 use Rattle.branch_sizes.specs.MoveLayout.Laid.{goal_address}
 use Rattle.block_encoder.specs.declared.error.MoveError.TheVariants as error
 use Rattle.block_encoder.specs.Moved.{MovedLists, IsMoved, IsRefused, IsOldPass, IsNewPass, IsTooFar, IsFirstUnreached, first_new_pass}
-use Rattle.command_words.specs.declared.commands.BlockWords.{BlockWords}
+use Rattle.moving_run.specs.declared.command_words.commands.BlockWords.{BlockWords}
 use Rattle.sweep.specs.declared.run_parts.status.Status.{Status}
 use Rattle.sweep.specs.declared.run_parts.status.Status.TheVariants.{Done, BadCode, Wraps, TooFar, TooMany}
 use Rattle.moving_run.specs.declared.moving.Wanted.{Wanted}

@@ -9,7 +9,7 @@ use Rattle.opcode_rows.specs.Sweep.{Item, IsSweep}
 use Rattle.branch_sizes.specs.declared.plan.BlockSpan.{BlockSpan}
 use Rattle.branch_sizes.specs.Facts.{BlockFacts}
 use Rattle.move_goals.specs.Items.{no_item, IsPlaced, ArePlaced, AreSpansOf, first_below, passes, first_passing, is_in_order, first_disorder, block_old_end, first_old_pass}
-use Rattle.command_words.specs.declared.commands.BlockWords.{BlockWords}
+use Rattle.moving_run.specs.declared.command_words.commands.BlockWords.{BlockWords}
 use Rattle.moving_run.specs.Code.{next_block_bytes, left_by, IsInstruction, AreSwept, placed_in, all_placed, all_spans}
 use Rattle.moving_run.specs.Ends.{block_end, end_or, first_pass}
 use Rattle.moving_run.proofs.Order.{block_placed, block_chain, block_last, order_behind, end_behind, end_empty, end_last}

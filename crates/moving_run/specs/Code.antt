@@ -7,7 +7,7 @@ use Rattle.opcode_rows.specs.Sweep.{Item, IsSweep, BeginsSweep}
 use Rattle.sweep.specs.SweepText.Lines.{error_of}
 use Rattle.branch_sizes.specs.declared.plan.BlockSpan.{BlockSpan}
 use Rattle.move_goals.specs.declared.items.Placed.{Placed}
-use Rattle.command_words.specs.declared.commands.BlockWords.{BlockWords}
+use Rattle.moving_run.specs.declared.command_words.commands.BlockWords.{BlockWords}
 
 -- ---- the input of each block
 

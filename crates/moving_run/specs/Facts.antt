@@ -7,7 +7,7 @@ use Rattle.branch_sizes.specs.declared.plan.BlockSpan.{BlockSpan}
 use Rattle.move_goals.specs.declared.items.Placed.{Placed}
 use Rattle.move_goals.specs.Items.{AreSpansOf, ArePlaced, first_old_pass}
 use Rattle.block_encoder.specs.Moved.{MovedLists, IsMoved}
-use Rattle.command_words.specs.declared.commands.BlockWords.{BlockWords}
+use Rattle.moving_run.specs.declared.command_words.commands.BlockWords.{BlockWords}
 use Rattle.sweep.specs.declared.run_parts.status.Status.{Status}
 use Rattle.moving_run.specs.declared.moving.Wanted.{Wanted}
 use Rattle.moving_run.specs.Code.{IsInstruction, AreSwept, BlockStopsAt, IsBadAt, placed_in, all_placed, all_spans}

@@ -1,3 +1,4 @@
+pub mod CommandWords
 pub mod Code
 pub mod Ends
 pub mod Facts

@@ -3,7 +3,7 @@ use Rattle.std.specs.Prelude.{◌≡◌, ℕ, ◌+◌, ◌^◌, ◌<◌, ◌≤�
 use Rattle.x86_values.specs.declared.Bits.{Bits}
 use Rattle.opcode_rows.specs.Sweep.{Item, IsSweep}
 use Rattle.move_goals.specs.declared.items.Placed.{Placed}
-use Rattle.command_words.specs.declared.commands.BlockWords.{BlockWords}
+use Rattle.moving_run.specs.declared.command_words.commands.BlockWords.{BlockWords}
 use Rattle.moving_run.specs.declared.code.Code.{Code}
 use Rattle.moving_run.specs.declared.code.CodeError.{CodeError}
 use Rattle.moving_run.specs.declared.code.CodeError.TheVariants.{BadCode, Memory}

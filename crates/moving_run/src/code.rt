@@ -5,8 +5,8 @@ ghost use Rattle.moving_run.specs.Code.{next_block_bytes, left_by};
 ghost use Rattle.moving_run.specs.Ends as end_spec;
 ghost use Rattle.moving_run.specs.Read as spec;
 
+use crate::command_words::BlockWords;
 use branch_sizes::{BlockSpan, MOST_ITEMS};
-use command_words::BlockWords;
 use decoder::DecodeError;
 use move_goals::{Placed, passes};
 use std::alloc::{AllocError, Global};

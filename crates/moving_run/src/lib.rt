@@ -2,6 +2,7 @@
 #![tactic(auto)]
 
 mod code;
+pub mod command_words;
 pub mod laws;
 mod map;
 mod moving;

@@ -7,13 +7,13 @@ ghost use Rattle.sweep.specs.RunParts.Writing.{HoldsFront};
 ghost use Rattle.moving_run.specs.Moving as spec;
 
 use crate::code::{Code, CodeError, first_pass, read_code};
+use crate::command_words::BlockWords;
 use crate::laws::{inputs_have_one_answer, moved_blocks_are_read_back};
 use crate::map::write_map;
 use block_encoder::{MovedBlocks, PlanError, move_ordered_blocks};
 use branch_sizes::MOST_ITEMS;
 use branch_sizes::laws::blocks_have_all_items;
 use byte_ports::{Failed, Sink, Source};
-use command_words::BlockWords;
 use move_goals::Placed;
 use std::alloc::Global;
 use sweep::run_parts::laws::told_bytes_are_read;

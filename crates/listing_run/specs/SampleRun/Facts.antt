@@ -5,7 +5,7 @@ use Rattle.opcode_rows.specs.Sweep.{Item, IsSweep}
 use Rattle.move_goals.specs.declared.items.Placed.{Placed}
 use Rattle.move_goals.specs.Items.{one_span}
 use Rattle.block_encoder.specs.Moved.{MovedLists, IsMoved}
-use Rattle.command_words.specs.declared.commands.BlockWords.{BlockWords}
+use Rattle.moving_run.specs.declared.command_words.commands.BlockWords.{BlockWords}
 use Rattle.sweep.specs.declared.run_parts.status.Status.{Status}
 use Rattle.sweep.specs.declared.run_parts.status.Status.TheVariants.{Memory}
 use Rattle.moving_run.specs.Code.{placed_in}

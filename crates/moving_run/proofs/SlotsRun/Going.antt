@@ -17,7 +17,7 @@ use Rattle.move_goals.specs.declared.items.Placed.{Placed}
 use Rattle.move_goals.specs.Items.{IsPlaced}
 use Rattle.step_slots.specs.State.{SlotState}
 use Rattle.step_slots.specs.Stepping.{IsStepped}
-use Rattle.command_words.specs.Ranges.{Range}
+use Rattle.moving_run.specs.CommandWords.Ranges.{Range}
 use Rattle.sweep.specs.declared.run_parts.status.Status.{Status}
 use Rattle.moving_run.specs.Code.{IsInstruction, BlockStopsAt}
 use Rattle.moving_run.specs.SlotsRun.Slotted.{slotted_by, slotted_in, empty_slots, AreSlotted}

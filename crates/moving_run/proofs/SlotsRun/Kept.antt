@@ -19,7 +19,7 @@ use Rattle.step_slots.specs.Stepping.{IsStepped, slots_refusal}
 use Rattle.step_slots.specs.Keeping.{AreSlotsKept}
 use Rattle.step_slots.specs.Holding.{HoldsSlots}
 use Rattle.step_slots.specs.Facts.{LiveSlotFacts, ReservedFacts}
-use Rattle.command_words.specs.Ranges.{Range, IsRange}
+use Rattle.moving_run.specs.CommandWords.Ranges.{Range, IsRange}
 use Rattle.sweep.specs.declared.run_parts.status.Status.{Status}
 use Rattle.sweep.specs.declared.run_parts.status.Status.TheVariants.{Memory, RegionFull, TooFar}
 use Rattle.moving_run.specs.SlotsRun.Slotted.{slotted_in, empty_slots, AreSlotted, IsSlotRefusal, MakesSlots, RefusesSlot}

@@ -16,7 +16,7 @@ use Rattle.step_slots.specs.declared.slots.StepSlot.{StepSlot}
 use Rattle.step_slots.specs.Block.{IsStepBlock, IsStepOutOfReach, step_items, step_plan, reserved_room}
 use Rattle.step_slots.specs.State.{SlotState, with_slot}
 use Rattle.step_slots.specs.Stepping.{IsStepped}
-use Rattle.command_words.specs.Ranges.{Range}
+use Rattle.moving_run.specs.CommandWords.Ranges.{Range}
 use Rattle.sweep.specs.declared.run_parts.status.Status.{Status}
 use Rattle.sweep.specs.declared.run_parts.status.Status.TheVariants.{Done, BadCode, TooFar, RegionFull}
 use Rattle.moving_run.specs.Facts.{InputFacts}

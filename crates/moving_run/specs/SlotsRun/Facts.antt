@@ -1,6 +1,6 @@
 -- What holds of all code whose instructions are given slots.
 use Rattle.std.specs.Prelude.{◌≡◌, ℕ, List}
-use Rattle.command_words.specs.Ranges.{Range}
+use Rattle.moving_run.specs.CommandWords.Ranges.{Range}
 use Rattle.sweep.specs.declared.run_parts.status.Status.{Status}
 use Rattle.moving_run.specs.SlotsRun.Slotting.{IsSlotsAnswer}
 

@@ -8,7 +8,7 @@ use Rattle.move_goals.specs.declared.items.Placed.{Placed}
 use Rattle.code_region.specs.State.{len_in_units, gaps_of, region_image}
 use Rattle.code_region.specs.Gaps.{first_gap, longest}
 use Rattle.code_region.specs.Placing.{place_answer}
-use Rattle.command_words.specs.Ranges.{Range}
+use Rattle.moving_run.specs.CommandWords.Ranges.{Range}
 use Rattle.step_slots.specs.Block.{IsStepOutOfReach, reserved_room}
 use Rattle.step_slots.specs.State.{SlotState, no_slots}
 use Rattle.step_slots.specs.Stepping.{IsStepped}

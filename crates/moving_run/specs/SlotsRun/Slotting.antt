@@ -1,7 +1,7 @@
 -- What the command `slots` leaves, by its status.
 use Rattle.std.specs.Prelude.{◌≡◌, ◌⊎◌, ℕ, ◌<◌, ◌≤◌, List, length, Option, Some, None}
 use Rattle.byte_ports.specs.Ports.{with_back}
-use Rattle.command_words.specs.Ranges.{Range}
+use Rattle.moving_run.specs.CommandWords.Ranges.{Range}
 use Rattle.sweep.specs.declared.run_parts.status.Status.{Status}
 use Rattle.sweep.specs.declared.run_parts.status.Status.TheVariants.{Done, BadCode, ReadFault, WriteFault, Memory, TooLarge, TooFar, RegionFull}
 use Rattle.sweep.specs.RunParts.Reads.{whole_limit, ReadsAll, ReadsTooMany}

@@ -7,7 +7,7 @@ use Rattle.step_slots.specs.declared.refusals.StepError.{StepError}
 use Rattle.step_slots.specs.declared.refusals.StepError.TheVariants as step_error
 use Rattle.step_slots.specs.State.{SlotState}
 use Rattle.step_slots.specs.Stepping.{IsStepped}
-use Rattle.command_words.specs.Ranges.{Range}
+use Rattle.moving_run.specs.CommandWords.Ranges.{Range}
 use Rattle.sweep.specs.declared.run_parts.status.Status.{Status}
 use Rattle.sweep.specs.declared.run_parts.status.Status.TheVariants.{Memory, TooFar, RegionFull}
 use Rattle.moving_run.specs.Code.{IsInstruction}

@@ -5,10 +5,10 @@ ghost use Rattle.byte_ports.specs.Ports.{Rose};
 ghost use Rattle.sweep.specs.RunParts.Reads.{whole_limit, Takes, EndsAtFault};
 ghost use Rattle.moving_run.specs.SlotsRun.Slotting.{SlotsAs, CompletesSlots};
 
+use crate::command_words::SlotRange;
 use crate::slots_run::laws::code_has_one_answer;
 use crate::slots_run::stepping::step_all;
 use byte_ports::{Sink, Source};
-use command_words::SlotRange;
 use std::alloc::Global;
 use step_slots::StepSlots;
 use step_slots::laws::{reserved_lengths_are_short, slots_stay_apart};

@@ -5,7 +5,7 @@ ghost use Rattle.move_goals.specs.Items.{IsPlaced};
 ghost use Rattle.moving_run.specs.SlotsRun.Slotted.{empty_slots};
 ghost use Rattle.moving_run.specs.SlotsRun.Steps as spec;
 
-use command_words::SlotRange;
+use crate::command_words::SlotRange;
 use std::alloc::Global;
 use step_slots::laws::{reserved_lengths_are_short, slots_stay_apart};
 use step_slots::{Placed, StepError, StepSlots};

@@ -1,6 +1,6 @@
 use Rattle.std.proofs.Common.{◌≡◌, ℕ, suc, ◌-◌, ◌≤◌, [], ◌∷◌, List, None, length, get_or, drop, refl, subst, arith, drop-cons, drop_of_length-le, add-one}
 use Rattle.std.proofs.lemmas.Result.{err_from_is_err_and}
-use Rattle.command_words.specs.declared.commands.BlockWords.{BlockWords}
+use Rattle.moving_run.specs.declared.command_words.commands.BlockWords.{BlockWords}
 use Rattle.moving_run.specs.Code.{next_block_bytes}
 use Rattle.moving_run.specs.Read.{ReadsBlock, IsBlockError}
 use Rattle.moving_run.proofs.Cutting.{cut_length}

@@ -1,0 +1,84 @@
+-- One word more of a text with numbers in place of names.
+use Rattle.std.proofs.Common.{◌≡◌, ℕ, Bool, true, false, zero, suc, max, ◌-◌, ◌<◌, ◌≤◌, List, [], ◌∷◌, ◌++◌, length, take, drop, get_or, None, refl, ap, arith}
+use Rattle.std.specs.Prelude.{◌==◌, if◌then◌else◌}
+use Rattle.assembly_text.specs.Lines.{lines_in, name_len, quote_behind}
+use Rattle.assembly_text.specs.Constants.{constant_from, bad_from, number_or, part_for, part_len, resolved_from}
+
+-- bytes of a word before are passed
+pub passed : (names : List (List ℕ)) (quote skip : ℕ) (text : List ℕ) → resolved_from names quote skip text ≡ resolved_from names quote 0 (drop skip text)
+unfolding resolved_from
+passed names quote zero text = refl
+passed names quote (suc skip) [] = refl
+passed names quote (suc skip) (c ∷ cs) = passed names quote skip cs
+
+-- the first word is taken
+pub one_part : (names : List (List ℕ)) (quote n : ℕ) (text : List ℕ) → 0 < n → n ≡ part_len quote text → 0 < length text
+    → resolved_from names quote 0 text ≡ part_for names quote (take n text) ++ resolved_from names (quote_behind quote (get_or text 0 0)) 0 (drop n text)
+unfolding resolved_from
+one_part names quote n [] some is long = absurd (omega arith)
+one_part names quote zero (c ∷ cs) some is long = absurd (omega arith)
+one_part names quote (suc n) (c ∷ cs) some is long =
+    let less : suc n - 1 ≡ n = omega arith in
+    rw (← is, less) (ap (λ (x : List ℕ). part_for names quote (c ∷ take n cs) ++ x) (passed names (quote_behind quote c) n cs))
+
+-- no words
+pub no_part : (names : List (List ℕ)) (quote : ℕ) (text : List ℕ) → length text ≤ 0 → resolved_from names quote 0 text ≡ []
+unfolding resolved_from
+no_part names quote [] none = refl
+no_part names quote (c ∷ cs) none = absurd (omega arith)
+
+-- no line has a name where there is no line
+pub constant_end : (rest name : List ℕ) → length rest ≤ 0 → constant_from (lines_in rest) name ≡ None
+unfolding lines_in constant_from
+constant_end [] name none = refl
+constant_end (c ∷ rest) name none = absurd (omega arith)
+
+-- nor is one bad
+pub bad_end : (rest : List ℕ) (count : ℕ) → length rest ≤ 0 → bad_from (lines_in rest) count ≡ None
+unfolding lines_in bad_from
+bad_end [] count none = refl
+bad_end (c ∷ rest) count none = absurd (omega arith)
+
+-- either way
+same : (b : Bool) (word : List ℕ) → (if b then word else word) ≡ word
+same true word = refl
+same false word = refl
+
+-- a word stays where there are no names
+no_name : (quote : ℕ) (word : List ℕ) → part_for [] quote word ≡ word
+unfolding part_for constant_from number_or
+no_name quote word = same (quote == 0) word
+
+-- what is taken and what is left
+cut_back : (n : ℕ) (cs : List ℕ) → take n cs ++ drop n cs ≡ cs
+cut_back zero cs = refl
+cut_back (suc n) [] = refl
+cut_back (suc n) (c ∷ cs) = ap (λ (xs : List ℕ). c ∷ xs) (cut_back n cs)
+
+-- one at least either way
+one_at_least : (b : Bool) (m : ℕ) → 0 < (if b then max 1 m else 1)
+one_at_least true m = omega arith
+one_at_least false m = omega arith
+
+-- a part has a byte at least
+part_some : (quote : ℕ) (text : List ℕ) → 0 < part_len quote text
+unfolding part_len
+part_some quote text = one_at_least (quote == 0) (name_len text)
+
+-- a part and what is left of a text
+parted : (n c : ℕ) (cs : List ℕ) → 0 < n → take n (c ∷ cs) ++ drop (n - 1) cs ≡ c ∷ cs
+parted zero c cs some = absurd (omega arith)
+parted (suc n) c cs some =
+    let less : suc n - 1 ≡ n = omega arith in
+    rw less (ap (λ (xs : List ℕ). c ∷ xs) (cut_back n cs))
+
+-- a text stays where there are no names
+pub unnamed : (quote skip : ℕ) (text : List ℕ) → resolved_from [] quote skip text ≡ drop skip text
+unfolding resolved_from
+unnamed quote zero [] = refl
+unnamed quote (suc skip) [] = refl
+unnamed quote (suc skip) (c ∷ cs) = unnamed quote skip cs
+unnamed quote zero (c ∷ cs) =
+    let n = part_len quote (c ∷ cs) in
+    let more = unnamed (quote_behind quote c) (n - 1) cs in
+    rw (no_name quote (take n (c ∷ cs)), more) (parted n c cs (part_some quote (c ∷ cs)))

@@ -1,0 +1,10 @@
+pub mod Lines
+pub mod Digits
+pub mod Names
+pub mod Classes
+pub mod Drafts
+pub mod Data
+pub mod Constants
+pub mod Statements
+pub mod Readings
+pub mod Text

@@ -1,0 +1,291 @@
+//! The parts of a line of code.
+
+ghost use Rattle.std.specs.Prelude.{◌≡◌, ◌≤◌, ◌<◌, ◌∷◌, map, take, drop, length, IfOk, MatchOption, Some, None};
+ghost use Rattle.std.specs.List.{prefix_len, suffix_len};
+ghost use Rattle.assembly_text.specs.Lines as spec;
+ghost use Rattle.assembly_text.specs.Lines.{is_blank, is_name_byte};
+
+use std::alloc::{AllocError, Global};
+
+/// Whether a byte is a space, a tab or a carriage return.
+#[tactic(auto, unfolding(crate::specs::Lines::is_blank))]
+pub(crate) fn is_blank(c: u8) -> bool
+    ensures { result ≡ is_blank c }
+{
+    c == b' ' || c == b'\t' || c == b'\r'
+}
+
+/// Whether a byte is a decimal digit.
+#[tactic(auto, unfolding(crate::specs::Lines::is_digit))]
+pub(crate) fn is_digit(c: u8) -> bool
+    ensures { result ≡ spec.is_digit c }
+{
+    b'0' <= c && c <= b'9'
+}
+
+/// Whether a byte belongs to a name.
+#[tactic(auto, unfolding(crate::specs::Lines::is_name_byte))]
+pub(crate) fn is_name_byte(c: u8) -> bool
+    ensures { result ≡ is_name_byte c }
+{
+    b'a' <= c && c <= b'z'
+        || (b'A' <= c && c <= b'Z'
+            || (is_digit(c) || (c == b'_' || (c == b'.' || (c == b'$' || c == b'@')))))
+}
+
+/// A letter in lower case.
+#[tactic(auto, unfolding(crate::specs::Lines::lower_byte))]
+pub(crate) fn lower_byte(c: u8) -> u8
+    ensures { result ≡ spec.lower_byte c }
+{
+    if b'A' <= c && c <= b'Z' { c + 32 } else { c }
+}
+
+/// A text in lower case.
+pub(crate) fn lowered(alloc: Global, text: &[u8]) -> Result<Vec<u8>, AllocError>
+    ensures { IfOk result (λ low. low.items ≡ map spec.lower_byte text.now) }
+{
+    let mut low = Vec::with_capacity(alloc, text.len())?;
+    'bytes: for k in 0..text.len() {
+        low.push(lower_byte(text[k]))?;
+    }
+    Ok(low)
+}
+
+/// Whether a byte is a quote.
+#[tactic(auto, unfolding(crate::specs::Lines::is_quote))]
+pub(crate) fn is_quote(c: u8) -> bool
+    ensures { result ≡ spec.is_quote c }
+{
+    c == b'\'' || c == b'"'
+}
+
+/// Whether a comment begins with a byte.
+#[tactic(auto, unfolding(crate::specs::Lines::begins_comment))]
+fn begins_comment(quote: u8, c: u8) -> bool
+    ensures { result ≡ spec.begins_comment quote c }
+{
+    quote == 0 && (c == b';' || c == b'#')
+}
+
+/// The quote that is open after a byte.
+#[tactic(auto, unfolding(crate::specs::Lines::quote_behind))]
+pub(crate) fn quote_behind(quote: u8, c: u8) -> u8
+    ensures { result ≡ spec.quote_behind quote c }
+{
+    if quote == 0 {
+        if is_quote(c) { c } else { 0 }
+    } else if c == quote {
+        0
+    } else {
+        quote
+    }
+}
+
+/// How many bytes a line has before its comment.
+#[tactic(auto, unfolding(crate::specs::Lines::code_len))]
+fn code_len(line: &[u8]) -> usize
+    ensures value { result ≡ spec.code_len 0 line.now }
+    ensures within { result ≤ length line.now }
+{
+    let mut quote = 0;
+    'bytes: for k in 0..line.len() {
+        if begins_comment(quote, line[k]) {
+            return k;
+        }
+        quote = quote_behind(quote, line[k]);
+    }
+    line.len()
+}
+
+/// How many blanks a text begins with.
+fn blanks_len(text: &[u8]) -> usize
+    ensures value { result ≡ prefix_len is_blank text.now }
+    ensures within { result ≤ length text.now }
+{
+    for (i, c) in text.iter().enumerate() {
+        if !is_blank(*c) {
+            return i;
+        }
+    }
+    text.len()
+}
+
+/// How many bytes the name at the front has.
+pub(crate) fn name_len(text: &[u8]) -> usize
+    ensures value { result ≡ prefix_len is_name_byte text.now }
+    ensures within { result ≤ length text.now }
+{
+    for (i, c) in text.iter().enumerate() {
+        if !is_name_byte(*c) {
+            return i;
+        }
+    }
+    text.len()
+}
+
+/// A text without the blanks at its front.
+pub(crate) fn unindented(text: &[u8]) -> &[u8]
+    ensures { result.now ≡ spec.unindented text.now }
+{
+    text.split_at(blanks_len(text)).1
+}
+
+/// A text without the blanks at its end.
+#[tactic(auto, using(crate::proofs::Trims::trim_steps))]
+fn unpadded(text: &[u8]) -> &[u8]
+    ensures { result.now ≡ spec.unpadded text.now }
+{
+    let mut len = text.len();
+    'blanks: while len > 0 && is_blank(text[len - 1]) {
+        len -= 1;
+    }
+    text.split_at(len).0
+}
+
+/// A text without blanks at either end.
+pub(crate) fn trimmed(text: &[u8]) -> &[u8]
+    ensures { result.now ≡ spec.trimmed text.now }
+{
+    unpadded(unindented(text))
+}
+
+/// A line without its comment.
+fn code_of(line: &[u8]) -> &[u8]
+    ensures { result.now ≡ spec.code_of line.now }
+{
+    line.split_at(code_len(line)).0
+}
+
+/// Whether a text begins with a label.
+#[tactic(auto, unfolding(crate::specs::Lines::has_label))]
+fn has_label(text: &[u8]) -> bool
+    ensures { result ≡ spec.has_label text.now }
+{
+    let len = name_len(text);
+    0 < len && !is_digit(byte_at(text, 0)) && byte_at(text, len) == b':'
+}
+
+/// A byte of a text, or 0 past its end.
+pub(crate) fn byte_at(text: &[u8], at: usize) -> u8
+    ensures { result ≡ spec.byte_at text.now at }
+{
+    match text.get(at) {
+        Some(c) => *c,
+        None => 0,
+    }
+}
+
+/// What follows the first so many bytes of a text.
+pub(crate) fn behind(text: &[u8], count: usize) -> &[u8]
+    ensures { result.now ≡ drop count text.now }
+{
+    text.split_at(count.min(text.len())).1
+}
+
+/// The first so many bytes of a text, as far as there are so many.
+pub(crate) fn front_of(text: &[u8], count: usize) -> &[u8]
+    ensures { result.now ≡ take count text.now }
+{
+    text.split_at(count.min(text.len())).0
+}
+
+/// What a line says besides its label.
+pub(crate) fn body_of(text: &[u8]) -> &[u8]
+    ensures { result.now ≡ spec.body_of text.now }
+{
+    if has_label(text) {
+        let (_, behind) = text.split_at(name_len(text));
+        unindented(behind.split_at(1.min(behind.len())).1)
+    } else {
+        text
+    }
+}
+
+/// What a line says: without its comment, and without blanks at its ends.
+pub(crate) fn shown(line: &[u8]) -> &[u8]
+    ensures { result.now ≡ spec.shown line.now }
+{
+    trimmed(code_of(line))
+}
+
+/// The column of what a line shows.
+pub(crate) fn shown_column(line: &[u8]) -> usize
+    ensures { result ≡ spec.shown_column line.now }
+{
+    blanks_len(code_of(line)) + 1
+}
+
+/// The column of what a line says besides its label.
+pub(crate) fn body_column(line: &[u8]) -> usize
+    ensures { result ≡ spec.body_column line.now }
+{
+    let shown = shown(line);
+    shown_column(line).saturating_add(shown.len().saturating_sub(body_of(shown).len()))
+}
+
+/// The label of a line, if it has one.
+pub(crate) fn label_of(text: &[u8]) -> Option<&[u8]>
+    ensures { MatchOption result (spec.label_of text.now ≡ None) (λ name. spec.label_of text.now ≡ Some name.now) }
+{
+    if has_label(text) {
+        Some(text.split_at(name_len(text)).0)
+    } else {
+        None
+    }
+}
+
+/// Whether a name begins at a place.
+#[tactic(auto, unfolding(crate::specs::Lines::begins_name))]
+pub(crate) fn begins_name(text: &[u8], at: usize) -> bool
+    ensures { result ≡ spec.begins_name text.now at }
+{
+    let c = byte_at(text, at);
+    is_name_byte(c)
+        && !is_digit(c)
+        && (at == 0 || !is_name_byte(byte_at(text, at.saturating_sub(1))))
+}
+
+/// The name at a place.
+pub(crate) fn name_at(text: &[u8], at: usize) -> &[u8]
+    ensures { result.now ≡ spec.name_at text.now at }
+{
+    split_name(behind(text, at)).0
+}
+
+/// The name at the front, and what follows it.
+pub(crate) fn split_name(text: &[u8]) -> (&[u8], &[u8])
+    ensures name { result.0.now ≡ take (spec.name_len text.now) text.now }
+    ensures behind { result.1.now ≡ drop (spec.name_len text.now) text.now }
+{
+    text.split_at(name_len(text))
+}
+
+/// The text with 0x0 in place of the name at a place.
+pub(crate) fn without_name(alloc: Global, text: &[u8], at: usize) -> Result<Vec<u8>, AllocError>
+    requires { at ≤ length text.now }
+    ensures { IfOk result (λ other. other.items ≡ spec.without_name text.now at) }
+{
+    let (front, back) = text.split_at(at);
+    let mut other = Vec::with_capacity(alloc, text.len().saturating_add(3))?;
+    other.extend_from_slice(front)?;
+    other.extend_from_slice(b"0x0")?;
+    other.extend_from_slice(split_name(back).1)?;
+    Ok(other)
+}
+
+/// The first line of some bytes without its line feed, and what follows that.
+pub(crate) fn first_line(bytes: &[u8]) -> (&[u8], &[u8])
+    requires { 0 < length bytes.now }
+    ensures lines { spec.lines_in bytes.now ≡ result.0.now ∷ spec.lines_in result.1.now }
+    ensures less { length result.1.now < length bytes.now }
+{
+    for at in 0..bytes.len() {
+        if bytes[at] == b'\n' {
+            let (line, rest) = bytes.split_at(at);
+            let (_, behind) = rest.split_at(1);
+            return (line, behind);
+        }
+    }
+    bytes.split_at(bytes.len())
+}

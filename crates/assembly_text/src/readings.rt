@@ -1,0 +1,173 @@
+//! Which instruction a text stands for as people write it.
+
+ghost use Rattle.std.specs.Prelude.{◌≡◌, ◌+◌, ◌<◌, ◌^◌, IfOk, MatchOption, Some, None, length};
+ghost use Rattle.intel_reader.specs.Assembled.{IsAssembled, IsNoText};
+ghost use Rattle.assembly_text.specs.Statements as statements;
+ghost use Rattle.assembly_text.specs.Readings as spec;
+
+use crate::code::Code;
+use crate::line::lowered;
+use crate::statements::{
+    Statement, Width, is_sound, name_of, put_full, sizes_of, statement_of, widths_of,
+};
+use intel_reader::read_intel;
+use intel_words::words::SizeName;
+use std::alloc::{AllocError, Global};
+use x86_values::{Bits, Instr};
+
+/// What the sizes of an address give.
+#[derive(Clone, Copy)]
+pub(crate) enum Reading {
+    /// No instruction.
+    None,
+    /// One.
+    One(Instr),
+    /// More than one.
+    Several,
+}
+
+/// How many bytes the text of an instruction has at most.
+const TEXT_LEN: usize = 160;
+
+/// What was read, with one instruction more.
+#[tactic(auto, unfolding(crate::specs::Readings::joined))]
+fn joined(before: Reading, found: Option<Instr>) -> Reading
+    ensures { result ≡ spec.joined before found }
+{
+    match found {
+        None => before,
+        Some(instr) => match before {
+            Reading::None => Reading::One(instr),
+            _ => Reading::Several,
+        },
+    }
+}
+
+/// The instruction of a text with a size and a width, if there is one.
+fn read_with(
+    out: &mut Vec<u8>,
+    bits: Bits,
+    ip: u64,
+    low: &[u8],
+    s: &Statement,
+    size: SizeName,
+    width: Width,
+) -> Result<Option<Instr>, AllocError>
+    ensures { IfOk result (λ found. MatchOption found (IsNoText bits ip (statements.full_text bits size width low.now s.now))
+        (λ i. IsAssembled bits ip (statements.full_text bits size width low.now s.now) i)) }
+{
+    out.clear();
+    put_full(out, bits, size, width, low, s)?;
+    match read_intel(bits, ip, out) {
+        Ok(instr) => Ok(Some(instr)),
+        Err(_) => Ok(None),
+    }
+}
+
+/// The instruction of a text with a size and the first of some widths, if there is one.
+fn read_first(
+    out: &mut Vec<u8>,
+    bits: Bits,
+    ip: u64,
+    low: &[u8],
+    s: &Statement,
+    size: SizeName,
+    widths: &[Width],
+) -> Result<Option<Instr>, AllocError>
+    ensures { IfOk result (λ found. spec.IsFirstRead bits ip low.now s.now size widths.now found) }
+{
+    match widths {
+        [] => Ok(None),
+        [width, rest @ ..] => {
+            let found = read_with(out, bits, ip, low, s, size, *width)?;
+            match found {
+                Some(instr) => Ok(Some(instr)),
+                None => read_first(out, bits, ip, low, s, size, rest),
+            }
+        }
+    }
+}
+
+/// What some sizes give.
+fn read_sizes(
+    out: &mut Vec<u8>,
+    bits: Bits,
+    ip: u64,
+    low: &[u8],
+    s: &Statement,
+    sizes: &[SizeName],
+    before: Reading,
+) -> Result<Reading, AllocError>
+    ensures { IfOk result (λ after. spec.IsReading bits ip low.now s.now sizes.now before after) }
+{
+    match sizes {
+        [] => Ok(before),
+        [size, rest @ ..] => {
+            let found = read_first(out, bits, ip, low, s, *size, widths_of(s))?;
+            read_sizes(out, bits, ip, low, s, rest, joined(before, found))
+        }
+    }
+}
+
+/// Where an instruction is read.
+#[tactic(auto, unfolding(crate::specs::Readings::address_of))]
+fn address_of(base: u64, s: &Statement) -> u64
+    ensures { result ≡ spec.address_of base s.now }
+{
+    if name_of(s).is_some() { 0 } else { base }
+}
+
+/// The instruction that was read, with the place of its name.
+#[tactic(auto, unfolding(crate::specs::Readings::code_of_reading))]
+fn code_of_reading(name: Option<usize>, reading: Reading) -> Code
+    ensures { result ≡ spec.code_of_reading name reading }
+{
+    match reading {
+        Reading::None => Code::Nothing,
+        Reading::Several => Code::Unsized,
+        Reading::One(instr) => match name {
+            None => Code::Plain(instr),
+            Some(at) => Code::Named(at, instr),
+        },
+    }
+}
+
+/// What the operands of a text say together.
+fn stated_code(
+    alloc: Global,
+    bits: Bits,
+    base: u64,
+    low: &[u8],
+    s: &Statement,
+) -> Result<Code, AllocError>
+    ensures { IfOk result (λ code. spec.IsStatedCode bits base low.now s.now code) }
+{
+    if !is_sound(s) {
+        return Ok(Code::Nothing);
+    }
+    let mut out = Vec::with_capacity(alloc, TEXT_LEN)?;
+    let reading = read_sizes(
+        &mut out,
+        bits,
+        address_of(base, s),
+        low,
+        s,
+        sizes_of(s),
+        Reading::None,
+    )?;
+    Ok(code_of_reading(name_of(s), reading))
+}
+
+/// What a text stands for as people write it.
+pub(crate) fn free_code(
+    alloc: Global,
+    bits: Bits,
+    base: u64,
+    text: &[u8],
+) -> Result<Code, AllocError>
+    ensures { IfOk result (λ code. spec.IsFreeCode bits base text.now code) }
+{
+    let low = lowered(alloc, text)?;
+    let statement = statement_of(&low);
+    stated_code(alloc, bits, base, &low, &statement)
+}

@@ -1,0 +1,52 @@
+//! Why a text has no bytes.
+
+use code_assembler::{BuildError, FinishError};
+use thiserror::Error;
+
+/// Why a line adds nothing.
+#[derive(Clone, Copy, PartialEq, Eq, Debug, Error)]
+pub enum LineError {
+    /// The line is not the text of an instruction.
+    #[error("no instruction has this text")]
+    NotCode,
+    /// The line is the text of several instructions, of which each has another size of its address: no operand tells which.
+    #[error("the address needs a size")]
+    SizeNeeded,
+    /// A line of data has what is no number that fits, and no string.
+    #[error("no number of this size, and no string")]
+    NotData,
+    /// No line has a label of the name.
+    #[error("no line has a label of this name")]
+    UnknownName,
+    /// The routine refuses the line: there are too many items, the label is placed by an earlier line, or the instruction has no encoding.
+    #[error("{why}")]
+    Refused { why: BuildError },
+}
+
+/// Why a text has no bytes. The first line that is refused is reported.
+#[derive(Clone, Copy, PartialEq, Eq, Debug, Error)]
+pub enum AssembleError {
+    /// There was not enough memory.
+    #[error("out of memory")]
+    NoMemory,
+    /// The line of this number among the caller's names, from 1, is no name with a number.
+    #[error("line {number} of the names is no name with a number")]
+    AtName {
+        number: u64,
+    },
+    /// There are more than 65,536 labels.
+    #[error("more than 65,536 labels")]
+    TooManyLabels,
+    /// The line of this number is refused at this column, both from 1. Columns count bytes.
+    #[error("line {number}, column {column}: {why}")]
+    AtLine {
+        number: u64,
+        column: u64,
+        why: LineError,
+    },
+    /// The routine has no bytes.
+    #[error("{why}")]
+    Unfinished {
+        why: FinishError,
+    },
+}

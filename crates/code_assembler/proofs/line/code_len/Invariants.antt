@@ -1,6 +1,0 @@
-use Rattle.std.proofs.Common.{◌≡◌, ◌+◌, drop}
-use Rattle.code_assembler.specs.Lines.{code_len}
-use Rattle.code_assembler.proofs.line.code_len.Given as goal
-
-abbrev pub invariant-bytes : goal.invariant-bytes
-invariant-bytes l = code_len 0 l.line ≡ l.k + code_len l.quote (drop l.k l.line)

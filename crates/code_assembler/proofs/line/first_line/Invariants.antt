@@ -1,5 +1,0 @@
-use Rattle.code_assembler.proofs.Cutting.{IsUnended}
-use Rattle.code_assembler.proofs.line.first_line.Given as goal
-
-abbrev pub invariant-loop-at : goal.invariant-loop-at
-invariant-loop-at l = IsUnended l.bytes l.at

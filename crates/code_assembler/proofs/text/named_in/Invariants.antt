@@ -1,7 +1,0 @@
-use Rattle.std.proofs.Common.{◌≡◌, ℕ, ◌<◌, true}
-use Rattle.code_assembler.specs.Lines.{begins_name}
-use Rattle.code_assembler.specs.Text.{IsNotNamed}
-use Rattle.code_assembler.proofs.text.named_in.Given as goal
-
-abbrev pub invariant-places : goal.invariant-places
-invariant-places l = (j : ℕ) → j < l.at → begins_name l.text j ≡ true → IsNotNamed l.bits l.text j

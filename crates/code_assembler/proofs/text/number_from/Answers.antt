@@ -1,9 +1,0 @@
-use Rattle.std.proofs.Common.{◌≤◌, length, arith, sym, ◌∙◌}
-use Rattle.std.proofs.lemmas.Bool.Decides.{nat_tests}
-use Rattle.code_assembler.proofs.Telling.{number_end}
-use Rattle.code_assembler.proofs.text.number_from.Goals as goal
-
-pub returns : goal.returns
-returns c =
-    let none : length c.lines.rest.now ≤ 0 = grind (arith, nat_tests, c.is_empty.ensures, c.lines-test.false) in
-    sym (c.lines.invariant.same ∙ number_end c.lines.rest.now c.args.name.now c.lines.count none)
