@@ -1,5 +1,5 @@
 -- What moving instructions answers of which some have no row, by what the mover answers for the items that stand for them.
-use Rattle.std.proofs.Common.{◌≡◌, ℕ, zero, suc, ◌+◌, ◌<◌, List, [], ◌∷◌, ◌++◌, length, map, Option, Some, None, refl, sym, ap, ◌∙◌, subst, arith}
+use Rattle.std.proofs.Common.{◌≡◌, ℕ, zero, suc, ◌+◌, ◌<◌, List, [], ◌∷◌, ◌++◌, length, map, Option, refl, sym, ap, ◌∙◌, subst, arith}
 use Rattle.std.specs.Prelude.{slice_get, slice_index_or, unwrap_or}
 use Rattle.std.specs.List.{flat_map, range_with_len}
 use Rattle.std.proofs.lemmas.List.{append-nil, get_or-map, get_or_default, length-map}
@@ -29,85 +29,85 @@ use Rattle.code_items.specs.declared.any_items.AnyItem.{AnyItem}
 use Rattle.code_items.specs.declared.any_items.AnyItem.TheVariants.{Listed, Unlisted}
 use Rattle.code_items.specs.AnyItems.{any_at}
 use Rattle.code_items.specs.AnyLawsBelow.{AnyLawsBelow}
-use Rattle.code_items.specs.AnyPlan.{first_at, goal_to, any_goal, any_target, unlisted_choice, any_choices, any_branch_at, any_plan}
-use Rattle.code_items.specs.AnyMoved.{any_bytes, IsAnyReached, any_block_bytes, IsMovedAny, IsAnyTooFar}
+use Rattle.code_items.specs.AnyPlan.{unlisted_choice, any_choices, any_branch_with, any_plan_with}
+use Rattle.code_items.specs.AnyMoved.{any_bytes, IsAnyReached, any_block_bytes, IsMovedAnyBy, IsAnyTooFarBy}
 use Rattle.code_items.specs.AnyWriting.{IsFiller, stand_in, stand_ins, bytes_for, AreStandIns, IsPlanOf, goal_by}
 use Rattle.code_items.proofs.AnyBytes.{fragment-length, filler-some}
 use Rattle.code_items.proofs.AnyLists.{more}
-use Rattle.code_items.proofs.AnyPlanned.{at_below}
 
 -- ---- the plan and the items that stand for instructions
 
 -- instruction k has its branch in the plan
-pub plan-item : (bits : Bits) (items : List AnyItem) (new k : ℕ) → k < length items → plan.item_at (any_plan bits items new) k ≡ any_branch_at bits items k
-unfolding any_plan
-plan-item bits items new k lt = get_or-map-range_with_len (any_branch_at bits items) 0 (length items) k k no_branch lt (omega arith)
+pub plan-item : (bits : Bits) (items : List AnyItem) (goals : ℕ → Goal) (new k : ℕ) → k < length items
+    → plan.item_at (any_plan_with bits items goals new) k ≡ any_branch_with bits items goals k
+unfolding any_plan_with
+plan-item bits items goals new k lt = get_or-map-range_with_len (any_branch_with bits items goals) 0 (length items) k k no_branch lt (omega arith)
 
 -- the plan is one block of all instructions
-pub plan-is : (bits : Bits) (items : List AnyItem) (new : ℕ) →
-    any_plan bits items new ≡ plan_of (record { count = length items; new_base = new } ∷ []) (map (any_branch_at bits items) (range_with_len 0 (length items)))
-unfolding any_plan
-plan-is bits items new =
-    ap (λ (n : ℕ). plan_of (record { count = n; new_base = new } ∷ []) (map (any_branch_at bits items) (range_with_len 0 (length items))))
-    (length-map-range_with_len (any_branch_at bits items) 0 (length items))
+pub plan-is : (bits : Bits) (items : List AnyItem) (goals : ℕ → Goal) (new : ℕ) →
+    any_plan_with bits items goals new ≡ plan_of (record { count = length items; new_base = new } ∷ []) (map (any_branch_with bits items goals) (range_with_len 0 (length items)))
+unfolding any_plan_with
+plan-is bits items goals new =
+    ap (λ (n : ℕ). plan_of (record { count = n; new_base = new } ∷ []) (map (any_branch_with bits items goals) (range_with_len 0 (length items))))
+    (length-map-range_with_len (any_branch_with bits items goals) 0 (length items))
 
 -- the plan has an item for each instruction
-pub plan-count : (bits : Bits) (items : List AnyItem) (new : ℕ) → length (any_plan bits items new).items ≡ length items
-unfolding any_plan
-plan-count bits items new = length-map-range_with_len (any_branch_at bits items) 0 (length items)
+pub plan-count : (bits : Bits) (items : List AnyItem) (goals : ℕ → Goal) (new : ℕ) → length (any_plan_with bits items goals new).items ≡ length items
+unfolding any_plan_with
+plan-count bits items goals new = length-map-range_with_len (any_branch_with bits items goals) 0 (length items)
 
 -- item k stands for instruction k
 stands-at : (filler : Instr) (items : List AnyItem) (k : ℕ) → k < length items → item_at (stand_ins filler items) k ≡ stand_in filler (any_at items k)
 stands-at filler items k lt = get_or-map (stand_in filler) items k (Listed no_item) no_item lt
 
-module _ (bits : Bits) (items : List AnyItem) (new : ℕ) (layout : List ℕ) (is_layout : IsLayout (any_plan bits items new) layout) where
+module _ (bits : Bits) (items : List AnyItem) (goals : ℕ → Goal) (new : ℕ) (layout : List ℕ) (is_layout : IsLayout (any_plan_with bits items goals new) layout) where
   only : (c : Choice) (n : ℕ) → n < 1 → slice_index_or (c ∷ []) n no_choice ≡ c
   only c zero lt = refl
   only c (suc n) lt = absurd (omega arith)
 
   -- an instruction without a row has its one form
   unlisted-choice : (k : ℕ) → k < length items → (x : AnyItem) → any_at items k ≡ x → (c : Choice) → any_choices bits x ≡ c ∷ [] →
-      item_choice (any_plan bits items new) layout k ≡ c
-  unfolding any_plan
+      item_choice (any_plan_with bits items goals new) layout k ≡ c
+  unfolding any_plan_with
   unlisted-choice k lt x at c one =
-      let cs : plan.choices_at (any_plan bits items new) k ≡ c ∷ [] =
-      ap (λ (b : Branch). b.choices.items) (plan-item bits items new k lt) ∙ (ap (any_choices bits) at ∙ one) in
-      let many : length (map (any_branch_at bits items) (range_with_len 0 (length items))) ≡ length items = length-map-range_with_len (any_branch_at bits items) 0 (length items) in
+      let cs : plan.choices_at (any_plan_with bits items goals new) k ≡ c ∷ [] =
+      ap (λ (b : Branch). b.choices.items) (plan-item bits items goals new k lt) ∙ (ap (any_choices bits) at ∙ one) in
+      let many : length (map (any_branch_with bits items goals) (range_with_len 0 (length items))) ≡ length items = length-map-range_with_len (any_branch_with bits items goals) 0 (length items) in
       let below : slice_index_or layout k 0 < 1 = omega (arith, is_layout.valid k (omega (arith, many, lt)), ap length cs) in
       ap (λ (xs : List Choice). slice_index_or xs (slice_index_or layout k 0) no_choice) cs ∙ only c (slice_index_or layout k 0) below
 
   module _ (filler : Instr) (k : ℕ) (lt : k < length items) where
-    to-by : (x : AnyItem) → any_at items k ≡ x → IsFragmentReached bits (stand_in filler x).instr (fragment_at (any_plan bits items new) layout k)
-        → IsAnyReached bits x (fragment_at (any_plan bits items new) layout k)
+    to-by : (x : AnyItem) → any_at items k ≡ x → IsFragmentReached bits (stand_in filler x).instr (fragment_at (any_plan_with bits items goals new) layout k)
+        → IsAnyReached bits x (fragment_at (any_plan_with bits items goals new) layout k)
     unfolding fragment_at
     to-by (Listed p) at h = h
     to-by (Unlisted u) at h =
-        let f = fragment_at (any_plan bits items new) layout k in
+        let f = fragment_at (any_plan_with bits items goals new) layout k in
         let near : f.form ≡ Near = ap (λ (c : Choice). c.form) (unlisted-choice k lt (Unlisted u) at (unlisted_choice bits u.shape) refl) in
         subst (λ (form : Form). Reaches (fragment_reach filler form f.reach) f.len f.place f.goal) near h.0
 
     -- what is reached by the item is reached by the instruction
-    pub to-any : IsReached bits (stand_ins filler items) (any_plan bits items new) layout k → IsAnyReached bits (any_at items k) (fragment_at (any_plan bits items new) layout k)
+    pub to-any : IsReached bits (stand_ins filler items) (any_plan_with bits items goals new) layout k → IsAnyReached bits (any_at items k) (fragment_at (any_plan_with bits items goals new) layout k)
     to-any h =
         to-by (any_at items k) refl
-        (subst (λ (p : Placed). IsFragmentReached bits p.instr (fragment_at (any_plan bits items new) layout k)) (stands-at filler items k lt) h)
+        (subst (λ (p : Placed). IsFragmentReached bits p.instr (fragment_at (any_plan_with bits items goals new) layout k)) (stands-at filler items k lt) h)
 
-    from-by : TargetFacts → IsFiller bits filler → (x : AnyItem) → any_at items k ≡ x → IsAnyReached bits x (fragment_at (any_plan bits items new) layout k)
-        → IsFragmentReached bits (stand_in filler x).instr (fragment_at (any_plan bits items new) layout k)
+    from-by : TargetFacts → IsFiller bits filler → (x : AnyItem) → any_at items k ≡ x → IsAnyReached bits x (fragment_at (any_plan_with bits items goals new) layout k)
+        → IsFragmentReached bits (stand_in filler x).instr (fragment_at (any_plan_with bits items goals new) layout k)
     unfolding fragment_at
     from-by targets is (Listed p) at h = h
     from-by targets is (Unlisted u) at h =
-        let f = fragment_at (any_plan bits items new) layout k in
+        let f = fragment_at (any_plan_with bits items goals new) layout k in
         let near : f.form ≡ Near = ap (λ (c : Choice). c.form) (unlisted-choice k lt (Unlisted u) at (unlisted_choice bits u.shape) refl) in (
           subst (λ (form : Form). Reaches (fragment_reach filler form f.reach) f.len f.place f.goal) (sym near) h,
           filler-some targets bits filler is f,
         )
 
     -- and the other way round
-    pub from-any : TargetFacts → IsFiller bits filler → IsAnyReached bits (any_at items k) (fragment_at (any_plan bits items new) layout k)
-        → IsReached bits (stand_ins filler items) (any_plan bits items new) layout k
+    pub from-any : TargetFacts → IsFiller bits filler → IsAnyReached bits (any_at items k) (fragment_at (any_plan_with bits items goals new) layout k)
+        → IsReached bits (stand_ins filler items) (any_plan_with bits items goals new) layout k
     from-any targets is h =
-        subst (λ (p : Placed). IsFragmentReached bits p.instr (fragment_at (any_plan bits items new) layout k)) (sym (stands-at filler items k lt))
+        subst (λ (p : Placed). IsFragmentReached bits p.instr (fragment_at (any_plan_with bits items goals new) layout k)) (sym (stands-at filler items k lt))
         (from-by targets is (any_at items k) refl h)
 
 -- ---- the answers
@@ -117,23 +117,23 @@ pub count-same : (filler : Instr) (items : List AnyItem) → length (stand_ins f
 count-same filler items = length-map items (stand_in filler)
 
 -- **items that are moved are the moved instructions**
-pub is_moved : (bits : Bits) (filler : Instr) (items : List AnyItem) (new : ℕ) (m : MovedLists) (out : List ℕ) →
-    (h : IsMovedBy bits (stand_ins filler items) (any_plan bits items new) m) → out ≡ any_block_bytes bits items (any_plan bits items new) h.layout →
-    IsMovedAny bits new (record { items = items; bytes = out; starts = m.starts; slots = m.slots })
-is_moved bits filler items new m out h is = record {
+pub is_moved : (bits : Bits) (filler : Instr) (items : List AnyItem) (goals : ℕ → Goal) (new : ℕ) (m : MovedLists) (out : List ℕ) →
+    (h : IsMovedBy bits (stand_ins filler items) (any_plan_with bits items goals new) m) → out ≡ any_block_bytes bits items (any_plan_with bits items goals new) h.layout →
+    IsMovedAnyBy bits items (any_plan_with bits items goals new) (record { bytes = out; starts = m.starts; forms = m.forms; slots = m.slots; ends = m.ends })
+is_moved bits filler items goals new m out h is = record {
   layout = h.layout;
   least = h.least;
   ends = h.ends;
-  reached = λ k lt. to-any bits items new h.layout h.least.closed.is_layout filler k lt (h.reached k (omega (arith, lt, count-same filler items)));
+  reached = λ k lt. to-any bits items goals new h.layout h.least.closed.is_layout filler k lt (h.reached k (omega (arith, lt, count-same filler items)));
   bytes = is;
-  starts = h.lists.starts ∙ ap (λ (n : ℕ). map (place (any_plan bits items new) h.layout) (range_with_len 0 n)) (count-same filler items);
-  slots = h.lists.slots ∙ ap (λ (p : BlockPlan). all_slots (any_plan bits items new) h.layout (length p.spans)) (plan-is bits items new);
+  starts = h.lists.starts ∙ ap (λ (n : ℕ). map (place (any_plan_with bits items goals new) h.layout) (range_with_len 0 n)) (count-same filler items);
+  slots = h.lists.slots ∙ ap (λ (p : BlockPlan). all_slots (any_plan_with bits items goals new) h.layout (length p.spans)) (plan-is bits items goals new);
 }
 
 -- **an item that does not reach its goal is an instruction that does not**
-pub is_too_far : TargetFacts → (bits : Bits) (filler : Instr) → IsFiller bits filler → (items : List AnyItem) (new at target : ℕ) →
-    IsTooFarBy bits (stand_ins filler items) (any_plan bits items new) at target → IsAnyTooFar bits items new at target
-is_too_far targets bits filler is items new at target h =
+pub is_too_far : TargetFacts → (bits : Bits) (filler : Instr) → IsFiller bits filler → (items : List AnyItem) (goals : ℕ → Goal) (new at target : ℕ) →
+    IsTooFarBy bits (stand_ins filler items) (any_plan_with bits items goals new) at target → IsAnyTooFarBy bits items (any_plan_with bits items goals new) at target
+is_too_far targets bits filler is items goals new at target h =
     let within : at < length items = omega (arith, h.first.within, count-same filler items) in
     record {
       layout = h.layout;
@@ -141,8 +141,8 @@ is_too_far targets bits filler is items new at target h =
       ends = h.ends;
       first = record {
         within = within;
-        unreached = λ r. h.first.unreached (from-any bits items new h.layout h.least.closed.is_layout filler at within targets is r);
-        before = λ j lt. to-any bits items new h.layout h.least.closed.is_layout filler j (omega (arith, lt, within)) (h.first.before j lt);
+        unreached = λ r. h.first.unreached (from-any bits items goals new h.layout h.least.closed.is_layout filler at within targets is r);
+        before = λ j lt. to-any bits items goals new h.layout h.least.closed.is_layout filler j (omega (arith, lt, within)) (h.first.before j lt);
       };
       target_is = h.target_is;
     }
@@ -158,14 +158,14 @@ module _ (bits : Bits) (items : List AnyItem) (placed : List Placed) (p : BlockP
   pub block-is : m.bytes ≡ flat_map (bytes_at bits placed p h.layout) (range_with_len 0 (length items)) ++ (gap_bytes p h.layout 0 ++ slot_bytes (slots_of p h.layout 0))
   unfolding block_bytes block_images
   block-is =
-      h.lists.bytes ∙ subst (λ (q : BlockPlan). Whole q) (sym (of.is ∙ plan-is bits items of.new)) whole
+      h.lists.bytes ∙ subst (λ (q : BlockPlan). Whole q) (sym (of.is ∙ plan-is bits items of.goals of.new)) whole
     where
       Whole : BlockPlan → Type 0
       Whole q =
           bytes_of_blocks bits placed q h.layout (length q.spans)
           ≡ flat_map (bytes_at bits placed q h.layout) (range_with_len 0 (length items)) ++ (gap_bytes q h.layout 0 ++ slot_bytes (slots_of q h.layout 0))
 
-      whole : Whole (plan_of (record { count = length items; new_base = of.new } ∷ []) (map (any_branch_at bits items) (range_with_len 0 (length items))))
+      whole : Whole (plan_of (record { count = length items; new_base = of.new } ∷ []) (map (any_branch_with bits items of.goals) (range_with_len 0 (length items))))
       whole = append-nil _
 
   -- the item that stands for an instruction
@@ -197,21 +197,13 @@ module _ (bits : Bits) (items : List AnyItem) (placed : List Placed) (p : BlockP
       ∙ get_or-map-range_with_len (place p h.layout) 0 (length placed) j j 0 lt (omega arith))
 
   module _ (laws : AnyLawsBelow) where
-    inside-below : (target : Option ℕ) (j : ℕ) → any_goal items target ≡ Inside j → j < length items
-    inside-below None j e = absurd (cc)
-    inside-below (Some t) j e = by_first (first_at items t) refl e
-      where
-        by_first : (o : Option ℕ) → first_at items t ≡ o → goal_to o t ≡ Inside j → j < length items
-        by_first None is e = absurd (cc)
-        by_first (Some i) is e = let same : i ≡ j = cc in omega (arith, at_below laws.firsts items t i is, same)
-
     -- the goal by the moved starts is that of the fragment
     pub goal-is : (k : ℕ) → k < length items → goal_by m.starts (plan.item_at p k).goal ≡ (fragment_at p h.layout k).goal
     unfolding fragment_at
     goal-is k lt =
-        let b : plan.item_at p k ≡ any_branch_at bits items k = ap (λ (q : BlockPlan). plan.item_at q k) of.is ∙ plan-item bits items of.new k lt in
+        let b : plan.item_at p k ≡ any_branch_with bits items of.goals k = ap (λ (q : BlockPlan). plan.item_at q k) of.is ∙ plan-item bits items of.goals of.new k lt in
         goal-by (plan.item_at p k).goal
-        (λ j e. inside-below (any_target bits (any_at items k)) j (sym (ap (λ (x : Branch). x.goal) b) ∙ e))
+        (λ j e. of.inside k j lt (sym (ap (λ (x : Branch). x.goal) b) ∙ e))
 
     -- the bytes of an item are as many as its form has
     pub length-is : (k : ℕ) → k < length items → length (bytes_at bits placed p h.layout k) ≡ form_length bits (item_at placed k).instr (fragment_at p h.layout k).form
@@ -242,7 +234,7 @@ module _ (bits : Bits) (items : List AnyItem) (placed : List Placed) (p : BlockP
   -- and a branch in the plan
   pub branches-count : length p.items ≡ length items
   branches-count =
-      ap (λ (q : BlockPlan). length q.items) (of.is ∙ plan-is bits items of.new) ∙ length-map-range_with_len (any_branch_at bits items) 0 (length items)
+      ap (λ (q : BlockPlan). length q.items) (of.is ∙ plan-is bits items of.goals of.new) ∙ length-map-range_with_len (any_branch_with bits items of.goals) 0 (length items)
 
   -- the bytes of an instruction that is taken out of the list, with what is known of its item
   pub piece-is : (k : ℕ) → k < length items → (x : AnyItem) → any_at items k ≡ x → (image : List ℕ) → image ≡ bytes_at bits placed p h.layout k →

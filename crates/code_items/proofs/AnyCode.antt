@@ -16,9 +16,9 @@ use Rattle.code_items.specs.declared.moving.MoveCodeError.{MoveCodeError}
 use Rattle.code_items.specs.declared.moving.MoveCodeError.TheVariants as error
 use Rattle.code_items.specs.Items.{old_pass}
 use Rattle.code_items.specs.AnyItems.{AnyUpTo, AreAnyItemsOf, HasAnyItems, wrapped_any, AreAnySound, AnyAscend}
-use Rattle.code_items.specs.AnyPlan.{any_plan}
-use Rattle.code_items.specs.AnyMoved.{MovedAny, any_block_bytes, IsMovedAny, IsAnyTooFar, RefusesAnyCode, IsAnyCodeAnswer}
-use Rattle.code_items.specs.AnyWriting.{IsFiller, stand_ins, code_error_of, IsAnyMoveAnswer}
+use Rattle.code_items.specs.AnyPlan.{any_plan_with, any_plan}
+use Rattle.code_items.specs.AnyMoved.{MovedAny, any_block_bytes, IsMovedAnyBy, IsAnyTooFarBy, IsAnyPlanAnswer, IsAnyTooFar, RefusesAnyCode, IsAnyCodeAnswer}
+use Rattle.code_items.specs.AnyWriting.{IsFiller, IsPlanOf, stand_ins, code_error_of, IsAnyMoveAnswer}
 use Rattle.code_items.proofs.Answered.{not_past}
 use Rattle.code_items.proofs.AnySoFar.{first-bytes}
 use Rattle.code_items.proofs.AnyOrder.{wrapped-same, ascend, sound}
@@ -90,36 +90,55 @@ module _ (bits : Bits) (ip : ℕ) (bytes : List ℕ) (list : List AnyItem) (h : 
 
 -- ---- the mover's answer, for the items that stand for the instructions
 
-module _ (bits : Bits) (filler : Instr) (items : List AnyItem) (new : ℕ) (placed : List Placed) (p : BlockPlan) (are : placed ≡ stand_ins filler items)
-    (of : p ≡ any_plan bits items new) where
-  -- items that are moved, with the bytes that are written
-  pub moved-items : (m : MovedLists) (out : List ℕ) → IsMovedBy bits placed p m → ((h : IsMovedBy bits placed p m) → out ≡ any_block_bytes bits items p h.layout) →
-      IsMovedAny bits new (record { items = items; bytes = out; starts = m.starts; slots = m.slots })
-  moved-items m out h written = by_both placed p are of h written
-    where
-      by_both : (placed : List Placed) (p : BlockPlan) → placed ≡ stand_ins filler items → p ≡ any_plan bits items new → IsMovedBy bits placed p m →
-          ((h : IsMovedBy bits placed p m) → out ≡ any_block_bytes bits items p h.layout) →
-          IsMovedAny bits new (record { items = items; bytes = out; starts = m.starts; slots = m.slots })
-      by_both placed p are of h written =
-          let P : List Placed → Type 0 = λ xs. (h : IsMovedBy bits xs p m) → out ≡ any_block_bytes bits items p h.layout in
-          let Q : BlockPlan → Type 0 = λ q. (h : IsMovedBy bits (stand_ins filler items) q m) → out ≡ any_block_bytes bits items q h.layout in
-          let there : IsMovedBy bits (stand_ins filler items) (any_plan bits items new) m =
-          subst (λ (q : BlockPlan). IsMovedBy bits (stand_ins filler items) q m) of (subst (λ (xs : List Placed). IsMovedBy bits xs p m) are h) in
-          is_moved bits filler items new m out there (subst Q of (subst P are written) there)
+module _ (bits : Bits) (items : List AnyItem) (placed : List Placed) (p : BlockPlan) (filler : Instr) (are : placed ≡ stand_ins filler items) (of : IsPlanOf bits items p) where
+  abbrev q : BlockPlan
+  q = any_plan_with bits items of.goals of.new
 
-  -- an end that passes
-  passes-there : (end : ℕ) → IsPassBy bits p end → IsPassBy bits (any_plan bits items new) end
-  passes-there end h = subst (λ (q : BlockPlan). IsPassBy bits q end) of h
+  -- **items that are moved, with the bytes that are written, are the moved instructions**
+  pub moved-items : (m : MovedLists) (out : List ℕ) → IsMovedBy bits placed p m → ((h : IsMovedBy bits placed p m) → out ≡ any_block_bytes bits items p h.layout) →
+      IsMovedAnyBy bits items p (record { bytes = out; starts = m.starts; forms = m.forms; slots = m.slots; ends = m.ends })
+  moved-items m out h written =
+      subst (λ (r : BlockPlan). IsMovedAnyBy bits items r (record { bytes = out; starts = m.starts; forms = m.forms; slots = m.slots; ends = m.ends })) (sym of.is)
+      (is_moved bits filler items of.goals of.new m out there (writes there))
+    where
+      there : IsMovedBy bits (stand_ins filler items) q m
+      there = subst (λ (r : BlockPlan). IsMovedBy bits (stand_ins filler items) r m) of.is (subst (λ (xs : List Placed). IsMovedBy bits xs p m) are h)
+
+      writes : (h : IsMovedBy bits (stand_ins filler items) q m) → out ≡ any_block_bytes bits items q h.layout
+      writes =
+          subst (λ (r : BlockPlan). (h : IsMovedBy bits (stand_ins filler items) r m) → out ≡ any_block_bytes bits items r h.layout) of.is
+          (subst (λ (xs : List Placed). (h : IsMovedBy bits xs p m) → out ≡ any_block_bytes bits items p h.layout) are written)
 
   -- an item that does not reach its goal
-  far-there : TargetFacts → IsFiller bits filler → (at target : ℕ) → IsTooFarBy bits placed p at target → IsAnyTooFar bits items new at target
+  far-there : TargetFacts → IsFiller bits filler → (at target : ℕ) → IsTooFarBy bits placed p at target → IsAnyTooFarBy bits items p at target
   far-there targets is at target h =
-      is_too_far targets bits filler is items new at target
-      (subst (λ (q : BlockPlan). IsTooFarBy bits (stand_ins filler items) q at target) of
-      (subst (λ (xs : List Placed). IsTooFarBy bits xs p at target) are h))
+      subst (λ (r : BlockPlan). IsAnyTooFarBy bits items r at target) (sym of.is)
+      (is_too_far targets bits filler is items of.goals of.new at target
+      (subst (λ (r : BlockPlan). IsTooFarBy bits (stand_ins filler items) r at target) of.is
+      (subst (λ (xs : List Placed). IsTooFarBy bits xs p at target) are h)))
 
   -- **why items are not moved is why the instructions are not**
-  pub refused : TargetFacts → IsFiller bits filler → (why : PlanError) → IsPlanAnswer bits placed p (as_moving (Err why)) → IsAnyMoveAnswer bits items new (Err (code_error_of why))
+  pub refused : TargetFacts → IsFiller bits filler → (why : PlanError) → IsPlanAnswer bits placed p (as_moving (Err why)) → IsAnyPlanAnswer bits items p (Err why)
   refused targets is plan_error.Memory h = h
-  refused targets is (plan_error.Wraps end) h = passes-there end h
+  refused targets is (plan_error.Wraps end) h = h
   refused targets is (plan_error.TooFar at target) h = far-there targets is at target h
+
+-- why the instructions are not moved by the plan of their targets is why the code is not
+pub code-refused : (bits : Bits) (items : List AnyItem) (new : ℕ) (why : PlanError) → IsAnyPlanAnswer bits items (any_plan bits items new) (Err why)
+    → IsAnyMoveAnswer bits items new (Err (code_error_of why))
+code-refused bits items new plan_error.Memory h = h
+code-refused bits items new (plan_error.Wraps end) h = h
+code-refused bits items new (plan_error.TooFar at target) h = h
+
+-- what contracts see of moved code leaves out forms and ends
+pub of-lists : (bits : Bits) (items : List AnyItem) (p : BlockPlan) (m : MovedLists) → IsMovedAnyBy bits items p m
+    → IsMovedAnyBy bits items p (record { bytes = m.bytes; starts = m.starts; forms = []; slots = m.slots; ends = [] })
+of-lists bits items p m h = record {
+  layout = h.layout;
+  least = h.least;
+  ends = h.ends;
+  reached = h.reached;
+  bytes = h.bytes;
+  starts = h.starts;
+  slots = h.slots;
+}

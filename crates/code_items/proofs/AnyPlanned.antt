@@ -2,7 +2,7 @@
 use Rattle.std.proofs.Common.{◌≡◌, ℕ, zero, suc, ◌+◌, ◌<◌, ◌≤◌, inl, inr, Bool, true, List, length, Option, Some, None, refl, sym, ap, ◌∙◌, subst, arith}
 use Rattle.std.specs.Prelude.{map, ◌==◌, IsTrue, slice_index_or}
 use Rattle.std.specs.List.{list_all, range_with_len}
-use Rattle.std.proofs.lemmas.Bool.{cases_lt, and_from, lt-ltb, le-leb, eq-eqb, ne_eqb}
+use Rattle.std.proofs.lemmas.Bool.{ltb-true, cases_lt, and_from, lt-ltb, le-leb, eq-eqb, ne_eqb}
 use Rattle.std.proofs.lemmas.List.{get_or_default}
 use Rattle.std.proofs.lemmas.List.FromFn.{length-map-range_with_len}
 use Rattle.x86_values.specs.declared.Bits.{Bits}
@@ -12,6 +12,8 @@ use Rattle.unlisted.specs.declared.Reference.{Reference}
 use Rattle.unlisted.specs.declared.Reference.TheVariants.{Rip, Eip, Branch as ToBranch}
 use Rattle.unlisted.specs.declared.Relative.{Relative}
 use Rattle.branch_sizes.specs.declared.plan.Branch.{Branch}
+use Rattle.branch_sizes.specs.declared.plan.Goal.{Goal}
+use Rattle.branch_sizes.specs.declared.plan.Goal.TheVariants.{None as NoGoal, Inside, Outside}
 use Rattle.branch_sizes.specs.Plan.{is_fit_reach, is_fit_goal, is_fit_branch}
 use Rattle.move_goals.specs.BranchForms.Choices.{choices_of}
 use Rattle.move_goals.specs.Items.{no_item}
@@ -19,7 +21,7 @@ use Rattle.move_goals.specs.Facts.{FirstFacts}
 use Rattle.code_items.specs.declared.any_items.AnyItem.{AnyItem}
 use Rattle.code_items.specs.declared.any_items.AnyItem.TheVariants.{Listed, Unlisted}
 use Rattle.code_items.specs.AnyItems.{item_ip, any_at, IsAnySound, AreAnySound, AnyAscend}
-use Rattle.code_items.specs.AnyPlan.{any_target, first_at, goal_to, any_goal, reference_reach, number_reach, any_choices, any_branch, any_branch_at}
+use Rattle.code_items.specs.AnyPlan.{any_target, first_at, goal_to, any_goal, reference_reach, number_reach, any_choices, any_branch_with, any_branch_at, any_goals}
 use Rattle.code_items.specs.AnyLawsBelow.{AnyLawsBelow}
 
 -- ---- the instruction at an address
@@ -103,25 +105,51 @@ module _ (laws : AnyLawsBelow) (bits : Bits) (items : List AnyItem) where
   goal-fit (Unlisted u) None e = refl
   goal-fit x (Some t) e = to-fit (length (any_choices bits x)) t (first_at items t) refl
 
-  item-fit : (x : AnyItem) → IsAnySound bits x → is_fit_branch (length items) (any_branch bits items x) ≡ true
-  item-fit (Listed p) sound =
+  -- one with a goal that it may have
+  item-fit : (x : AnyItem) → IsAnySound bits x → (goal : Goal) → is_fit_goal (length items) (length (any_choices bits x)) goal ≡ true
+      → is_fit_branch (length items) (record { choices = record { items = any_choices bits x }; goal = goal }) ≡ true
+  item-fit (Listed p) sound goal fit =
       let cs = choices_of bits p.instr in
       let h = laws.forms.spelled-fit bits (modulo_width bits p.ip) sound.bytes p.instr sound.spelled in
       and_from _ _ (and_from _ _ (lt-ltb 0 (length cs) h.0) (le-leb (length cs) 3 h.1))
-      (and_from _ _ h.2 (and_from _ _ h.3 (and_from _ _ (goal-fit (Listed p) (any_target bits (Listed p)) refl) h.4)))
-  item-fit (Unlisted u) sound =
+      (and_from _ _ h.2 (and_from _ _ h.3 (and_from _ _ fit h.4)))
+  item-fit (Unlisted u) sound goal fit =
       and_from _ _ refl
       (and_from _ _ (and_from _ _ (le-leb 1 u.shape.len sound.0) (and_from _ _ (le-leb u.shape.len 15 sound.1) refl))
       (and_from _ _ (and_from _ _ (number-fit bits u.shape.relative) refl)
-      (and_from _ _ (goal-fit (Unlisted u) (any_target bits (Unlisted u)) refl) refl)))
+      (and_from _ _ fit refl)))
+
+  -- **the items of a plan with goals that they may have are fit**
+  pub items_fit_with : AreAnySound bits items → (goals : ℕ → Goal)
+      → ((k : ℕ) → k < length items → is_fit_goal (length items) (length (any_choices bits (any_at items k))) (goals k) ≡ true)
+      → (branches : List Branch) → branches ≡ map (any_branch_with bits items goals) (range_with_len 0 (length items))
+      → IsTrue (list_all (is_fit_branch (length branches)) branches)
+  items_fit_with sound goals fit branches are =
+      let f = any_branch_with bits items goals in
+      let len : length branches ≡ length items = ap length are ∙ length-map-range_with_len f 0 (length items) in
+      subst (λ (bs : List Branch). list_all (is_fit_branch (length branches)) bs ≡ true) (sym are)
+      (subst (λ (n : ℕ). list_all (is_fit_branch n) (map f (range_with_len 0 (length items))) ≡ true) (sym len)
+      (all_of_range (is_fit_branch (length items)) f 0 (length items)
+      (λ k le lt. let below : k < length items = omega (arith, lt) in item-fit (any_at items k) (sound.each k below) (goals k) (fit k below))))
 
   -- **the items of the plan are fit**
   pub items_fit : AreAnySound bits items → (branches : List Branch) → branches ≡ map (any_branch_at bits items) (range_with_len 0 (length items))
       → IsTrue (list_all (is_fit_branch (length branches)) branches)
   items_fit sound branches are =
-      let f = any_branch_at bits items in
-      let len : length branches ≡ length items = ap length are ∙ length-map-range_with_len f 0 (length items) in
-      subst (λ (bs : List Branch). list_all (is_fit_branch (length branches)) bs ≡ true) (sym are)
-      (subst (λ (n : ℕ). list_all (is_fit_branch n) (map f (range_with_len 0 (length items))) ≡ true) (sym len)
-      (all_of_range (is_fit_branch (length items)) f 0 (length items)
-      (λ k le lt. item-fit (any_at items k) (sound.each k (omega (arith, lt))))))
+      items_fit_with sound (any_goals bits items) (λ k lt. goal-fit (any_at items k) (any_target bits (any_at items k)) refl) branches are
+
+  -- a goal inside is one of the instructions
+  to-below : (t j : ℕ) (o : Option ℕ) → first_at items t ≡ o → goal_to o t ≡ Inside j → j < length items
+  to-below t j None is e = absurd (cc)
+  to-below t j (Some i) is e = let same : i ≡ j = cc in omega (arith, at_below laws.firsts items t i is, same)
+
+  -- so is one by a target
+  pub inside-below : (target : Option ℕ) (j : ℕ) → any_goal items target ≡ Inside j → j < length items
+  inside-below None j e = absurd (cc)
+  inside-below (Some t) j e = to-below t j (first_at items t) refl e
+
+-- a goal inside that an instruction may have is one of them
+pub fit-below : (count choices : ℕ) (goal : Goal) (j : ℕ) → is_fit_goal count choices goal ≡ true → goal ≡ Inside j → j < count
+fit-below count choices NoGoal j fit e = absurd (cc)
+fit-below count choices (Outside t) j fit e = absurd (cc)
+fit-below count choices (Inside i) j fit e = let same : i ≡ j = cc in omega (arith, ltb-true i count fit, same)

@@ -14,6 +14,7 @@ use Rattle.unlisted.specs.Measured.{StandsInside}
 use Rattle.branch_sizes.specs.declared.plan.Branch.{Branch}
 use Rattle.branch_sizes.specs.declared.plan.Choice.{Choice}
 use Rattle.branch_sizes.specs.declared.plan.Form.TheVariants.{Itself}
+use Rattle.branch_sizes.specs.declared.plan.Goal.{Goal}
 use Rattle.branch_sizes.specs.Plan as plan
 use Rattle.branch_sizes.specs.Plan.{BlockPlan, no_choice, plan_of}
 use Rattle.branch_sizes.specs.Layout.{total, item_choice, image_length, place}
@@ -23,13 +24,14 @@ use Rattle.move_goals.specs.BranchForms.Branches.{branch_of}
 use Rattle.move_goals.specs.BranchForms.Images.{form_length}
 use Rattle.move_goals.specs.BranchForms.Choices.{branch_forms, branch_choice, choices_by, choices_of}
 use Rattle.block_encoder.specs.Bytes.{gap_bytes, slot_bytes}
+use Rattle.block_encoder.specs.Moved.{MovedLists}
 use Rattle.code_items.specs.declared.any_items.AnyItem.{AnyItem}
 use Rattle.code_items.specs.declared.any_items.AnyItem.TheVariants.{Listed, Unlisted}
 use Rattle.code_items.specs.AnyItems.{any_at, IsAnySound, AreAnySound}
 use Rattle.code_items.specs.AnyLawsBelow.{AnyLawsBelow}
-use Rattle.code_items.specs.AnyPlan.{unlisted_choice, any_choices, any_branch_at, any_plan}
-use Rattle.code_items.specs.AnyMoved.{number_to, own_bytes_at, any_bytes, IsAnyReached, MovedAny, any_block_bytes, IsMovedAny}
-use Rattle.code_items.specs.AnyStanding.{AnyStandsAt, AllStandAt}
+use Rattle.code_items.specs.AnyPlan.{unlisted_choice, any_choices, any_branch_with, any_plan_with, any_goals}
+use Rattle.code_items.specs.AnyMoved.{number_to, own_bytes_at, any_bytes, IsAnyReached, any_block_bytes, IsMovedAnyBy, lists_of}
+use Rattle.code_items.specs.AnyStanding.{AnyStandsIn, AllStandAt}
 use Rattle.code_items.proofs.AnyBytes.{fragment-length}
 use Rattle.code_items.proofs.AnyLists.{more, split}
 use Rattle.code_items.proofs.AnyOrder.{sound}
@@ -71,26 +73,27 @@ choice-length bits i n lt = by_branch (branch_of i) n lt
         let e = get_or-map (branch_choice bits i b) fs n Itself no_choice (omega (arith, lt, length-map fs (branch_choice bits i b))) in
         rw e refl
 
-module _ (laws : AnyLawsBelow) (bits : Bits) (new : ℕ) (m : MovedAny) (h : IsMovedAny bits new m) (well : AreAnySound bits m.items) where
+module _ (laws : AnyLawsBelow) (bits : Bits) (items : List AnyItem) (goals : ℕ → Goal) (new : ℕ) (m : MovedLists) (well : AreAnySound bits items)
+    (h : IsMovedAnyBy bits items (any_plan_with bits items goals new) m) where
   abbrev p : BlockPlan
-  p = any_plan bits m.items new
+  p = any_plan_with bits items goals new
 
-  branch-is : (k : ℕ) → k < length m.items → plan.choices_at p k ≡ any_choices bits (any_at m.items k)
-  branch-is k lt = ap (λ (b : Branch). b.choices.items) (plan-item bits m.items new k lt)
+  branch-is : (k : ℕ) → k < length items → plan.choices_at p k ≡ any_choices bits (any_at items k)
+  branch-is k lt = ap (λ (b : Branch). b.choices.items) (plan-item bits items goals new k lt)
 
-  below : (k : ℕ) → k < length m.items → slice_index_or h.layout k 0 < length (any_choices bits (any_at m.items k))
-  unfolding any_plan
+  below : (k : ℕ) → k < length items → slice_index_or h.layout k 0 < length (any_choices bits (any_at items k))
+  unfolding any_plan_with
   below k lt =
-      let many : length (map (any_branch_at bits m.items) (range_with_len 0 (length m.items))) ≡ length m.items = length-map-range_with_len (any_branch_at bits m.items) 0 (length m.items) in
+      let many : length (map (any_branch_with bits items goals) (range_with_len 0 (length items))) ≡ length items = length-map-range_with_len (any_branch_with bits items goals) 0 (length items) in
       omega (arith, h.least.closed.is_layout.valid k (omega (arith, many, lt)), ap length (branch-is k lt))
 
-  choice-is : (k : ℕ) → k < length m.items → item_choice p h.layout k ≡ slice_index_or (any_choices bits (any_at m.items k)) (slice_index_or h.layout k 0) no_choice
+  choice-is : (k : ℕ) → k < length items → item_choice p h.layout k ≡ slice_index_or (any_choices bits (any_at items k)) (slice_index_or h.layout k 0) no_choice
   choice-is k lt = ap (λ (cs : List Choice). slice_index_or cs (slice_index_or h.layout k 0) no_choice) (branch-is k lt)
 
   -- the bytes of an instruction are as many as its form has
-  bytes-length : (k : ℕ) → k < length m.items → length (any_bytes bits (any_at m.items k) (fragment_at p h.layout k)) ≡ image_length p h.layout k
+  bytes-length : (k : ℕ) → k < length items → length (any_bytes bits (any_at items k) (fragment_at p h.layout k)) ≡ image_length p h.layout k
   unfolding any_bytes fragment_at
-  bytes-length k lt = by_item (any_at m.items k) (well.each k lt) (h.reached k lt) (below k lt) (choice-is k lt)
+  bytes-length k lt = by_item (any_at items k) (well.each k lt) (h.reached k lt) (below k lt) (choice-is k lt)
     where
       only : (c : Choice) (n : ℕ) → n < 1 → slice_index_or (c ∷ []) n no_choice ≡ c
       only c zero lt = refl
@@ -111,30 +114,30 @@ module _ (laws : AnyLawsBelow) (bits : Bits) (new : ℕ) (m : MovedAny) (h : IsM
   -- ---- one behind another
 
   abbrev g : ℕ → List ℕ
-  g k = any_bytes bits (any_at m.items k) (fragment_at p h.layout k)
+  g k = any_bytes bits (any_at items k) (fragment_at p h.layout k)
 
   -- the bytes of the first instructions are as many as their forms together
-  sum-is : (k : ℕ) → k ≤ length m.items → length (flat_map g (range_with_len 0 k)) ≡ total (image_length p h.layout) k
+  sum-is : (k : ℕ) → k ≤ length items → length (flat_map g (range_with_len 0 k)) ≡ total (image_length p h.layout) k
   sum-is zero le = refl
   sum-is (suc k) le =
       ap length (more g k)
       ∙ (length-append (flat_map g (range_with_len 0 k)) (g k)
       ∙ (ap (λ (n : ℕ). n + length (g k)) (sum-is k (omega arith)) ∙ ap (λ (n : ℕ). total (image_length p h.layout) k + n) (bytes-length k (omega arith))))
 
-  place-is : (k : ℕ) → k < length m.items → place p h.layout k ≡ new + total (image_length p h.layout) k
+  place-is : (k : ℕ) → k < length items → place p h.layout k ≡ new + total (image_length p h.layout) k
   place-is k lt =
-      ap (λ (q : BlockPlan). place q h.layout k) (plan-is bits m.items new)
-      ∙ (rw (lt-ltb k (length m.items) lt) (omega arith)
-      ∙ ap (λ (q : BlockPlan). new + total (image_length q h.layout) k) (sym (plan-is bits m.items new)))
+      ap (λ (q : BlockPlan). place q h.layout k) (plan-is bits items goals new)
+      ∙ (rw (lt-ltb k (length items) lt) (omega arith)
+      ∙ ap (λ (q : BlockPlan). new + total (image_length q h.layout) k) (sym (plan-is bits items goals new)))
 
   -- **each stands at its place**
-  pub stands : (k : ℕ) → k < length m.items → AnyStandsAt bits new m h.layout k
+  pub stands : (k : ℕ) → k < length items → AnyStandsIn bits items p new m.bytes h.layout k
   unfolding any_block_bytes
   stands k lt =
       let tail = gap_bytes p h.layout 0 ++ slot_bytes (slots_of p h.layout 0) in
       let front = flat_map g (range_with_len 0 k) in
-      let back = flat_map g (range_with_len (k + 1) (length m.items - (k + 1))) in
-      let parts : m.bytes ≡ front ++ (g k ++ (back ++ tail)) = h.bytes ∙ split g k (length m.items) tail lt in
+      let back = flat_map g (range_with_len (k + 1) (length items - (k + 1))) in
+      let parts : m.bytes ≡ front ++ (g k ++ (back ++ tail)) = h.bytes ∙ split g k (length items) tail lt in
       let size = bytes-length k lt in
       let at = place-is k lt in
       let before = sum-is k (omega arith) in
@@ -152,4 +155,4 @@ module _ (laws : AnyLawsBelow) (bits : Bits) (new : ℕ) (m : MovedAny) (h : IsM
 -- **of moved code each instruction stands at its place**
 pub all-stand : AnyLawsBelow → AllStandAt
 all-stand laws bits old bytes new m moved k lt =
-    stands laws bits new m moved.moved (sound bits old bytes m.items moved.are.end [] moved.are.reads) k lt
+    stands laws bits m.items (any_goals bits m.items) new (lists_of m) (sound bits old bytes m.items moved.are.end [] moved.are.reads) moved.moved k lt

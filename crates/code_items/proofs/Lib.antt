@@ -4,6 +4,7 @@ pub mod AnyBytes
 pub mod AnyCode
 pub mod AnyLists
 pub mod AnyNumbers
+pub mod AnyOne
 pub mod AnyOrder
 pub mod AnyPlanned
 pub mod AnySoFar

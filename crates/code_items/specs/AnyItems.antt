@@ -3,6 +3,7 @@ use Rattle.std.specs.Prelude.{◌≡◌, ℕ, ◌+◌, ◌<◌, ◌≤◌, ◌==
 use Rattle.x86_values.specs.declared.Bits.{Bits}
 use Rattle.x86_values.specs.Wrapping.{modulo_width}
 use Rattle.instruction_parts.specs.Counting.{is_16}
+use Rattle.opcode_rows.specs.Allowed.{is_well_formed}
 use Rattle.opcode_rows.specs.Reading.{IsRead}
 use Rattle.decoder.specs.declared.DecodeError.{DecodeError}
 use Rattle.decoder.specs.Answer.{reading_of}
@@ -67,6 +68,11 @@ IsUnlistedAnswer bits ip bytes (Some u) = UnlistedFirst bits ip bytes u
 pub record HasNone (bits : Bits) (ip : ℕ) (bytes : List ℕ) (e : DecodeError) : Type 0 where
   pub unread : IsRead bits ip bytes (reading_of (Err e))
   pub unlisted : HasNoUnlisted bits bytes
+
+-- an instruction of the table has the form of its row
+abbrev pub is_any_formed : AnyItem → Bool
+is_any_formed (Listed p) = is_well_formed p.instr
+is_any_formed (Unlisted u) = true
 
 -- the answer which instruction stands there
 abbrev pub IsAnyAnswer : Bits → ℕ → List ℕ → Result AnyItem DecodeError → Type 0

@@ -12,7 +12,9 @@ use Rattle.branch_sizes.specs.Layout.{IsLeast, Reaches, place}
 use Rattle.branch_sizes.specs.declared.move_layout.layout.Fragment.{Fragment}
 use Rattle.branch_sizes.specs.MoveLayout.Laid.{goal_address, fragment_at, slots_of, all_slots}
 use Rattle.block_encoder.specs.Bytes.{fragment_bytes, gap_bytes, slot_bytes}
-use Rattle.block_encoder.specs.Moved.{IsFragmentReached, first_new_pass}
+use Rattle.block_encoder.specs.declared.error.PlanError.{PlanError}
+use Rattle.block_encoder.specs.declared.error.PlanError.TheVariants as plan_error
+use Rattle.block_encoder.specs.Moved.{MovedLists, IsFragmentReached, first_new_pass}
 use Rattle.block_encoder.specs.ByPlan.{IsPassBy}
 use Rattle.code_items.specs.declared.any_items.AnyItem.{AnyItem}
 use Rattle.code_items.specs.declared.any_items.AnyItem.TheVariants.{Listed, Unlisted}
@@ -65,23 +67,43 @@ pub record IsFirstAnyUnreached (bits : Bits) (items : List AnyItem) (p : BlockPl
   pub unreached : IsAnyReached bits (any_at items k) (fragment_at p layout k) → ⊥
   pub before : (j : ℕ) → j < k → IsAnyReached bits (any_at items j) (fragment_at p layout j)
 
--- In the least layout the new end is inside the address space, each instruction reaches its goal, and the bytes and addresses are those of that layout.
-pub record IsMovedAny (bits : Bits) (new : ℕ) (m : MovedAny) : Type 0 where
+-- In the least layout of a plan the new end is inside the address space, each instruction reaches its goal, and the bytes and addresses are those of that
+-- layout.
+pub record IsMovedAnyBy (bits : Bits) (items : List AnyItem) (p : BlockPlan) (m : MovedLists) : Type 0 where
   pub layout : List ℕ
-  pub least : IsLeast (any_plan bits m.items new) layout
-  pub ends : first_new_pass bits (any_plan bits m.items new) layout ≡ None
-  pub reached : (k : ℕ) → k < length m.items → IsAnyReached bits (any_at m.items k) (fragment_at (any_plan bits m.items new) layout k)
-  pub bytes : m.bytes ≡ any_block_bytes bits m.items (any_plan bits m.items new) layout
-  pub starts : m.starts ≡ map (place (any_plan bits m.items new) layout) (range_with_len 0 (length m.items))
-  pub slots : m.slots ≡ all_slots (any_plan bits m.items new) layout 1
+  pub least : IsLeast p layout
+  pub ends : first_new_pass bits p layout ≡ None
+  pub reached : (k : ℕ) → k < length items → IsAnyReached bits (any_at items k) (fragment_at p layout k)
+  pub bytes : m.bytes ≡ any_block_bytes bits items p layout
+  pub starts : m.starts ≡ map (place p layout) (range_with_len 0 (length items))
+  pub slots : m.slots ≡ all_slots p layout 1
 
 -- the new end is inside the address space, and an instruction does not reach its goal: the first that does not
-pub record IsAnyTooFar (bits : Bits) (items : List AnyItem) (new at target : ℕ) : Type 0 where
+pub record IsAnyTooFarBy (bits : Bits) (items : List AnyItem) (p : BlockPlan) (at target : ℕ) : Type 0 where
   pub layout : List ℕ
-  pub least : IsLeast (any_plan bits items new) layout
-  pub ends : first_new_pass bits (any_plan bits items new) layout ≡ None
-  pub first : IsFirstAnyUnreached bits items (any_plan bits items new) layout at
-  pub target_is : target ≡ goal_address (any_plan bits items new) layout at
+  pub least : IsLeast p layout
+  pub ends : first_new_pass bits p layout ≡ None
+  pub first : IsFirstAnyUnreached bits items p layout at
+  pub target_is : target ≡ goal_address p layout at
+
+-- what the moving of instructions by a plan answers: the block, or why there is none
+abbrev pub IsAnyPlanAnswer : Bits → List AnyItem → BlockPlan → Result MovedLists PlanError → Type 0
+IsAnyPlanAnswer bits items p (Ok m) = IsMovedAnyBy bits items p m
+IsAnyPlanAnswer bits items p (Err plan_error.Memory) = Unit {0}
+IsAnyPlanAnswer bits items p (Err (plan_error.Wraps end)) = IsPassBy bits p end
+IsAnyPlanAnswer bits items p (Err (plan_error.TooFar at target)) = IsAnyTooFarBy bits items p at target
+
+-- the lists of moved code
+abbrev pub lists_of : MovedAny → MovedLists
+lists_of m = record { bytes = m.bytes; starts = m.starts; forms = []; slots = m.slots; ends = [] }
+
+-- its instructions are moved by the plan of their targets
+abbrev pub IsMovedAny : Bits → ℕ → MovedAny → Type 0
+IsMovedAny bits new m = IsMovedAnyBy bits m.items (any_plan bits m.items new) (lists_of m)
+
+-- one of them does not reach its goal: the first that does not
+abbrev pub IsAnyTooFar : Bits → List AnyItem → ℕ → ℕ → ℕ → Type 0
+IsAnyTooFar bits items new at target = IsAnyTooFarBy bits items (any_plan bits items new) at target
 
 -- ---- the answer
 

@@ -1,5 +1,5 @@
 -- The plan by which instructions are moved of which some have no row: of each its forms and its goal.
-use Rattle.std.specs.Prelude.{ℕ, ◌==◌, if◌then◌else◌, List, [], ◌∷◌, length, map, Option, Some, None}
+use Rattle.std.specs.Prelude.{◌≡◌, ℕ, ◌<◌, ◌==◌, Bool, true, false, is_some, if◌then◌else◌, List, [], ◌∷◌, length, map, slice_index_or, Option, Some, None, IsTrue}
 use Rattle.std.specs.List.{range_with_len}
 use Rattle.x86_values.specs.declared.Bits.{Bits}
 use Rattle.instruction_parts.specs.Counting.{is_64}
@@ -8,6 +8,7 @@ use Rattle.unlisted.specs.declared.Reference.TheVariants.{Rip, Eip, Branch as To
 use Rattle.unlisted.specs.declared.Relative.{Relative}
 use Rattle.unlisted.specs.declared.Shape.{Shape}
 use Rattle.unlisted.specs.Measured.{relative_target}
+use Rattle.operand_info.specs.Operands.{near_value, first_value}
 use Rattle.branch_sizes.specs.declared.plan.Branch.{Branch}
 use Rattle.branch_sizes.specs.declared.plan.Choice.{Choice}
 use Rattle.branch_sizes.specs.declared.plan.Form.TheVariants.{Near}
@@ -15,7 +16,7 @@ use Rattle.branch_sizes.specs.declared.plan.Goal.{Goal}
 use Rattle.branch_sizes.specs.declared.plan.Goal.TheVariants.{None as NoGoal, Inside, Outside}
 use Rattle.branch_sizes.specs.declared.plan.Reach.{Reach}
 use Rattle.branch_sizes.specs.declared.plan.Reach.TheVariants.{Always, Signed32, Below}
-use Rattle.branch_sizes.specs.Plan.{BlockPlan, one_block}
+use Rattle.branch_sizes.specs.Plan.{BlockPlan, one_block, is_fit_goal}
 use Rattle.move_goals.specs.MovedTargets.Targets.{target_of}
 use Rattle.move_goals.specs.BranchForms.Choices.{choices_of}
 use Rattle.move_goals.specs.Items.{first_below}
@@ -44,6 +45,16 @@ abbrev pub any_goal : List AnyItem → Option ℕ → Goal
 any_goal items None = NoGoal
 any_goal items (Some t) = goal_to (first_at items t) t
 
+-- a number refers to where a branch goes: that of XBEGIN
+abbrev pub refers_to_branch : Option Relative → Bool
+refers_to_branch None = false
+refers_to_branch (Some r) = elim r.to [ Rip ↦ false | Eip ↦ false | ToBranch ↦ true ]
+
+-- what an instruction refers to is where it branches, near: all others refer to memory
+abbrev pub is_any_branch : AnyItem → Bool
+is_any_branch (Listed p) = is_some (first_value near_value p.instr)
+is_any_branch (Unlisted u) = refers_to_branch u.shape.relative
+
 -- ---- forms
 
 -- what a number reaches: at RIP, and as the distance of a branch in 64-bit mode, a signed distance of 32 bits; at EIP an address below 2 to the power of
@@ -69,17 +80,43 @@ any_choices bits (Unlisted u) = unlisted_choice bits u.shape ∷ []
 
 -- ---- the plan
 
--- the forms and the goal of one of some instructions
+-- the forms of one of some instructions, and its goal by its target
 abbrev pub any_branch : Bits → List AnyItem → AnyItem → Branch
 any_branch bits items item = record {
   choices = record { items = any_choices bits item };
   goal = any_goal items (any_target bits item);
 }
 
--- those of instruction k
-abbrev pub any_branch_at : Bits → List AnyItem → ℕ → Branch
-any_branch_at bits items k = any_branch bits items (any_at items k)
+-- the forms of instruction k, and a goal
+abbrev pub any_branch_with : Bits → List AnyItem → (ℕ → Goal) → ℕ → Branch
+any_branch_with bits items goals k = record {
+  choices = record { items = any_choices bits (any_at items k) };
+  goal = goals k;
+}
 
--- the plan of one block at an address
-unfoldable pub any_plan : Bits → List AnyItem → ℕ → BlockPlan
-any_plan bits items new = one_block new (map (any_branch_at bits items) (range_with_len 0 (length items)))
+-- the plan of one block at an address, of instructions that have some goals
+unfoldable pub any_plan_with : Bits → List AnyItem → (ℕ → Goal) → ℕ → BlockPlan
+any_plan_with bits items goals new = one_block new (map (any_branch_with bits items goals) (range_with_len 0 (length items)))
+
+-- the goals by the targets
+abbrev pub any_goals : Bits → List AnyItem → ℕ → Goal
+any_goals bits items k = any_goal items (any_target bits (any_at items k))
+
+-- the forms of instruction k, and its goal by its target
+abbrev pub any_branch_at : Bits → List AnyItem → ℕ → Branch
+any_branch_at bits items = any_branch_with bits items (any_goals bits items)
+
+-- the plan by the targets
+abbrev pub any_plan : Bits → List AnyItem → ℕ → BlockPlan
+any_plan bits items new = any_plan_with bits items (any_goals bits items) new
+
+-- ---- given goals
+
+-- goal k of a list
+abbrev pub goal_in : List Goal → ℕ → Goal
+goal_in goals k = slice_index_or goals k NoGoal
+
+-- each instruction has a goal that it may have: one inside is one of the instructions, and one without a goal has one form
+pub record AreAnyGoals (bits : Bits) (items : List AnyItem) (goals : List Goal) : Type 0 where
+  pub count : length goals ≡ length items
+  pub each : (k : ℕ) → k < length items → IsTrue (is_fit_goal (length items) (length (any_choices bits (any_at items k))) (goal_in goals k))

@@ -1,5 +1,5 @@
 -- What the writing of instructions without a row goes by: an instruction that stands in the plan for each of them.
-use Rattle.std.specs.Prelude.{◌≡◌, ℕ, List, length, map, unwrap_or, slice_get, Result, Ok, Err}
+use Rattle.std.specs.Prelude.{◌≡◌, ℕ, ◌<◌, List, length, map, unwrap_or, slice_get, Result, Ok, Err}
 use Rattle.x86_values.specs.declared.Bits.{Bits}
 use Rattle.x86_values.specs.declared.Instr.{Instr}
 use Rattle.branch_sizes.specs.declared.plan.Goal.{Goal}
@@ -13,7 +13,7 @@ use Rattle.code_items.specs.declared.any_items.AnyItem.{AnyItem}
 use Rattle.code_items.specs.declared.any_items.AnyItem.TheVariants.{Listed, Unlisted}
 use Rattle.code_items.specs.declared.moving.MoveCodeError.{MoveCodeError}
 use Rattle.code_items.specs.declared.moving.MoveCodeError.TheVariants.{Memory, Wraps, TooFar}
-use Rattle.code_items.specs.AnyPlan.{any_plan}
+use Rattle.code_items.specs.AnyPlan.{any_plan_with}
 use Rattle.code_items.specs.AnyMoved.{own_bytes_at, MovedAny, IsMovedAny, IsAnyRefused}
 
 -- an instruction without a target, which has an encoding at every address
@@ -41,10 +41,12 @@ pub record AreStandIns (items : List AnyItem) (placed : List Placed) : Type 0 wh
   pub filler : Instr
   pub are : placed ≡ stand_ins filler items
 
--- a plan is that of some instructions, somewhere
+-- a plan is that of some instructions with some goals, somewhere; a goal inside is one of the instructions
 pub record IsPlanOf (bits : Bits) (items : List AnyItem) (p : BlockPlan) : Type 0 where
+  pub goals : ℕ → Goal
   pub new : ℕ
-  pub is : p ≡ any_plan bits items new
+  pub is : p ≡ any_plan_with bits items goals new
+  pub inside : (k j : ℕ) → k < length items → goals k ≡ Inside j → j < length items
 
 -- a goal as an address, where the instructions stand at these places
 abbrev pub goal_by : List ℕ → Goal → ℕ

@@ -1,6 +1,6 @@
 //! The instructions of some code, of the table and without a row.
 
-ghost use Rattle.std.specs.Prelude.{◌≡◌, ◌<◌, ◌≤◌, length, take, MatchResult};
+ghost use Rattle.std.specs.Prelude.{◌≡◌, ◌<◌, ◌≤◌, length, take, IsTrue, IfOk, MatchResult};
 ghost use Rattle.unlisted.specs.Measured as measured;
 ghost use Rattle.code_items.specs.AnyItems as spec;
 ghost use Rattle.code_items.specs.AnyItems.{HasAnyItems, IsAnyAnswer, IsAnyReadRefusal, IsUnlistedAnswer};
@@ -46,8 +46,8 @@ pub(crate) fn item_ip(item: &AnyItem) -> u64
     }
 }
 
-/// Returns the length of an instruction.
-fn item_len(item: &AnyItem) -> u8
+/// Returns the length of an instruction, 1 to 15 bytes if it was read.
+pub fn item_len(item: &AnyItem) -> u8
     ensures { result ≡ spec.item_len item.now }
 {
     match item {
@@ -112,9 +112,12 @@ fn unlisted_item(bits: Bits, ip: u64, bytes: &[u8]) -> Option<UnlistedItem>
     }
 }
 
-/// The instruction at the front of some bytes, of the table if one is read there.
-fn read_any(bits: Bits, ip: u64, bytes: &[u8]) -> Result<AnyItem, DecodeError>
-    ensures { IsAnyAnswer bits ip bytes.now result }
+/// Decodes the instruction at the front of some bytes like `decode_in`, and measures it if the opcode table leaves it out (`unlisted::measure`).
+///
+/// `ip` is its address. The error is the decoder's. An XBEGIN with a 16-bit distance outside 16-bit mode counts as no instruction.
+pub fn read_any(bits: Bits, ip: u64, bytes: &[u8]) -> Result<AnyItem, DecodeError>
+    ensures answer { IsAnyAnswer bits ip bytes.now result }
+    ensures formed { IfOk result (λ item. IsTrue (spec.is_any_formed item)) }
 {
     match decode_in(bits, ip, bytes) {
         Ok(read) => Ok(AnyItem::Listed(Placed {

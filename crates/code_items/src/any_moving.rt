@@ -6,13 +6,13 @@ ghost use Rattle.code_items.specs.AnyMoved.{IsAnyCodeAnswer};
 ghost use Rattle.code_items.specs.AnyWriting as writing;
 ghost use Rattle.code_items.specs.AnyWriting.{IsAnyMoveAnswer};
 
+use crate::any_block::{MovedAnyBlock, move_by_plan};
 use crate::any_items::{AnyItem, read_any_items};
 use crate::any_laws_below::laws_below;
 use crate::any_plan::any_plan;
-use crate::any_writing::{filler, stand_ins, write_items};
 use crate::moving::{MoveCodeError, old_pass};
 use crate::reading::ReadError;
-use block_encoder::{MovedBlocks, PlanError, move_planned};
+use block_encoder::PlanError;
 use branch_sizes::MOST_ITEMS;
 use std::alloc::Global;
 use std::marker::Model;
@@ -22,8 +22,7 @@ use x86_values::Bits;
 #[derive(Drop)]
 pub struct MovedAnyCode {
     items: Vec<AnyItem>,
-    bytes: Vec<u8>,
-    moved: MovedBlocks,
+    block: MovedAnyBlock,
 }
 
 impl Model for MovedAnyCode {
@@ -32,9 +31,9 @@ impl Model for MovedAnyCode {
 
     ghost Value = { MovedAny };
 
-    ghost view = { λ m. record { items = m.items.items; bytes = m.bytes.items; starts = m.moved.starts; slots = m.moved.slots } };
+    ghost view = { λ m. record { items = m.items.items; bytes = m.block.bytes; starts = m.block.starts; slots = m.block.slots } };
 
-    ghost invariant = { λ m. length m.moved.starts ≡ length m.items.items };
+    ghost invariant = { λ m. length m.block.starts ≡ length m.items.items };
 }
 
 impl MovedAnyCode {
@@ -49,7 +48,7 @@ impl MovedAnyCode {
     pub fn bytes(&self) -> &[u8]
         ensures { result.now ≡ self.now.bytes }
     {
-        &self.bytes
+        self.block.bytes()
     }
 
     /// Returns the new address of each instruction.
@@ -57,14 +56,14 @@ impl MovedAnyCode {
         ensures starts { result.now ≡ self.now.starts }
         ensures len { length result.now ≡ length self.now.items }
     {
-        self.moved.starts()
+        self.block.starts()
     }
 
     /// Returns the addresses in the slots, in order.
     pub fn slots(&self) -> &[u64]
         ensures { result.now ≡ self.now.slots }
     {
-        self.moved.slots()
+        self.block.slots()
     }
 }
 
@@ -132,27 +131,12 @@ fn move_any(
     ensures { IsAnyMoveAnswer bits items.items new result }
 {
     laws_below();
-    // NOP has an encoding in each mode.
-    let Some(filler) = filler(bits) else {
-        return Err(MoveCodeError::Memory);
-    };
     let plan = match any_plan(alloc, bits, &items, new) {
         Ok(plan) => plan,
         Err(_) => return Err(MoveCodeError::Memory),
     };
-    let stand_ins = match stand_ins(alloc, &filler, &items) {
-        Ok(list) => list,
-        Err(_) => return Err(MoveCodeError::Memory),
-    };
-    match move_planned(alloc, bits, &stand_ins, &plan) {
-        Ok(moved) => match write_items(alloc, bits, &items, &stand_ins, &plan, &moved) {
-            Ok(bytes) => Ok(MovedAnyCode {
-                items,
-                bytes,
-                moved,
-            }),
-            Err(_) => Err(MoveCodeError::Memory),
-        },
+    match move_by_plan(alloc, bits, &items, &plan) {
+        Ok(block) => Ok(MovedAnyCode { items, block }),
         Err(why) => Err(code_error(why)),
     }
 }

@@ -2,6 +2,7 @@
 //! addresses.
 #![tactic(auto)]
 
+mod any_block;
 mod any_items;
 pub mod any_laws;
 mod any_laws_below;
@@ -12,8 +13,10 @@ mod items;
 mod moving;
 mod reading;
 
-pub use any_items::{AnyItem, UnlistedItem, read_any_items};
+pub use any_block::{MovedAnyBlock, move_any_block};
+pub use any_items::{AnyItem, UnlistedItem, item_len, read_any, read_any_items};
 pub use any_moving::{MovedAnyCode, move_code_unlisted};
+pub use any_plan::{any_choices, any_target, is_any_branch};
 pub use items::{CodeItem, CodeItems, CodeIter};
 pub use moving::{MoveCodeError, MovedCode, move_code, move_items};
 pub use reading::{ReadError, read_items};

@@ -7,6 +7,10 @@ pub mod OnePlace
 pub mod ReadBack
 pub mod Made
 pub mod Listed
+pub mod AnyFront
+pub mod AnyPlanned
+pub mod AnyOnePlace
+pub mod AnyMade
 pub mod Ruling
 pub mod Keeping
 pub mod Short

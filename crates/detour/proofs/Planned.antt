@@ -31,7 +31,8 @@ use Rattle.detour.proofs.Jumping.{jump-placed}
 
 -- ---- the goals are items or addresses
 
-among_fit : (start : StartTarget) (count n : ℕ) (own : Option ℕ) (t : ℕ) → ((j : ℕ) → own ≡ Some j → j < count) → is_fit_goal count n (trampoline_goal_among start own t) ≡ true
+-- a goal among so many is one of them
+pub among_fit : (start : StartTarget) (count n : ℕ) (own : Option ℕ) (t : ℕ) → ((j : ℕ) → own ≡ Some j → j < count) → is_fit_goal count n (trampoline_goal_among start own t) ≡ true
 among_fit start count n None t below = refl
 among_fit Moved count n (Some zero) t below = lt-ltb 0 count (below 0 refl)
 among_fit Hooked count n (Some zero) t below = refl

@@ -14,6 +14,12 @@ pub mod Kept
 pub mod Padding
 pub mod PaddingParts
 pub mod Made
+pub mod AnyTaken
+pub mod AnyReading
+pub mod AnyTrampoline
+pub mod AnyDetours
+pub mod AnyMade
+pub mod AnyLawsBelow
 pub mod LengthLaws
 pub mod Lengths
 pub mod Writes

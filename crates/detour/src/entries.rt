@@ -1,13 +1,15 @@
 //! Whether control elsewhere in a function enters what is taken.
 
 ghost use Rattle.std.specs.Prelude.{◌≡◌, ◌<◌, ◌≤◌, ◌↔◌, length, IsTrue, IfOk};
-ghost use Rattle.flow_graph.specs.Control.{code_bytes};
+ghost use Rattle.flow_graph.specs.Control.{code_bytes_with};
+ghost use Rattle.flow_graph.specs.Graphs.{IsFlowGraph};
 ghost use Rattle.detour.specs.Reading.{AreCoded, IsTakenFit};
 ghost use Rattle.detour.specs.Taken.{taken_bytes};
 ghost use Rattle.detour.specs.Entries.{IsMovedStart, IsEntry, IsNextEntry, IsTargetEntry, IsEntryFrom, IsEntryAnswer};
 
 use crate::taken::{Taken, moved_count, offset_at};
-use flow_graph::{FlowError, exits_at, flow_graph_in};
+use flow_graph::laws::one_entry_is_the_first_byte;
+use flow_graph::{FlowError, FlowGraph, Follow, exits_following, flow_graph_following};
 use move_goals::Placed;
 use std::alloc::Global;
 use x86_values::Bits;
@@ -76,22 +78,45 @@ fn entered_target(taken: &Taken, p: usize, target: Option<usize>) -> Option<usiz
 }
 
 /// The offset in what is taken that is entered from an offset of some code, if one is.
-fn entry_from(bits: Bits, ip: u64, code: &[u8], taken: &Taken, p: usize) -> Option<usize>
+fn entry_from(
+    follow: Follow,
+    bits: Bits,
+    ip: u64,
+    code: &[u8],
+    taken: &Taken,
+    p: usize,
+) -> Option<usize>
     requires inside { p < length code.now }
     requires size { length code.now ≤ 1048576 }
     requires fit { IsTakenFit bits taken.now }
-    ensures { IsEntryFrom (code_bytes bits ip code.now) taken.now.items.items p result }
+    ensures { IsEntryFrom (code_bytes_with follow bits ip code.now) taken.now.items.items p result }
 {
-    let exits = exits_at(bits, ip, code, p);
+    let exits = exits_following(follow, bits, ip, code, p);
     match entered_next(taken, p, exits.next) {
         Some(end) => Some(end),
         None => entered_target(taken, p, exits.target),
     }
 }
 
-/// The first offset from which what is taken is entered, and the offset that is.
+/// The flow graph of some code from its first byte, through the instructions that `follow` names.
+fn graph_following(
+    alloc: Global,
+    follow: Follow,
+    bits: Bits,
+    ip: u64,
+    code: &[u8],
+) -> Result<FlowGraph, FlowError>
+    requires { length code.now ≤ 1048576 }
+    ensures { IfOk result (λ graph. IsFlowGraph (code_bytes_with follow bits ip code.now) graph) }
+{
+    one_entry_is_the_first_byte();
+    flow_graph_following(alloc, follow, bits, ip, code, &[0])
+}
+
+/// The first offset from which what is taken is entered, and the offset that is, where control goes through the instructions that `follow` names.
 pub(crate) fn first_entry(
     alloc: Global,
+    follow: Follow,
     bits: Bits,
     ip: u64,
     code: &[u8],
@@ -99,12 +124,12 @@ pub(crate) fn first_entry(
 ) -> Result<Option<(u32, usize)>, FlowError>
     requires size { length code.now ≤ 1048576 }
     requires fit { IsTakenFit bits taken.now }
-    ensures { IfOk result (λ entry. IsEntryAnswer (code_bytes bits ip code.now) taken.now.items.items entry) }
+    ensures { IfOk result (λ entry. IsEntryAnswer (code_bytes_with follow bits ip code.now) taken.now.items.items entry) }
 {
-    let graph = flow_graph_in(alloc, bits, ip, code)?;
+    let graph = graph_following(alloc, follow, bits, ip, code)?;
     let starts = graph.starts();
     'starts: for k in 0..starts.len() {
-        if let Some(target) = entry_from(bits, ip, code, taken, starts[k] as usize) {
+        if let Some(target) = entry_from(follow, bits, ip, code, taken, starts[k] as usize) {
             return Ok(Some((starts[k], target)));
         }
     }

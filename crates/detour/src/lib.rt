@@ -1,6 +1,10 @@
 //! Detours: a jump over the first bytes of a function, and a trampoline that does what these bytes did and continues after them.
 #![tactic(auto)]
 
+mod any_laws_below;
+mod any_making;
+mod any_taken;
+mod any_trampoline;
 mod calls;
 mod entries;
 mod error;
@@ -20,6 +24,7 @@ mod taken;
 mod trampoline;
 pub mod writes;
 
+pub use any_making::detour_unlisted;
 pub use error::DetourError;
 pub use kept::{KeepError, KeptDetour, detour_keeping_endbr, kept_len};
 pub use making::detour;

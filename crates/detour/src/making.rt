@@ -26,7 +26,7 @@ use crate::taken::{Taken, first_code_behind, offset_at, take};
 use crate::trampoline::{goes_back, lay_trampoline};
 use arrayvec::ArrayVec;
 use block_encoder::{MovedBlocks, PlanError};
-use flow_graph::FlowError;
+use flow_graph::{FlowError, Follow};
 use move_goals::Placed;
 use move_goals::laws::first_numbers_pass;
 use std::alloc::{AllocError, Global};
@@ -77,7 +77,7 @@ pub(crate) fn relay_behind(place: u64, len: usize) -> Option<u64>
 }
 
 /// Returns that there is no relay, if the instructions are refused for any cause except lack of memory.
-fn no_relay_for(why: DetourError) -> Result<Option<u64>, DetourError>
+pub(crate) fn no_relay_for(why: DetourError) -> Result<Option<u64>, DetourError>
     ensures none { IfOk result (λ relay. (relay ≡ None) × (why ≡ Memory → ⊥)) }
     ensures refused { IfErr result (λ error. error ≡ Memory) }
 {
@@ -88,7 +88,7 @@ fn no_relay_for(why: DetourError) -> Result<Option<u64>, DetourError>
 }
 
 /// Returns that there is no relay, if the move is refused for any cause except lack of memory.
-fn no_relay_behind(why: PlanError) -> Result<Option<u64>, DetourError>
+pub(crate) fn no_relay_behind(why: PlanError) -> Result<Option<u64>, DetourError>
     ensures none { IfOk result (λ relay. (relay ≡ None) × (why ≡ plan_error.Memory → ⊥)) }
     ensures refused { IfErr result (λ error. error ≡ Memory) }
 {
@@ -144,7 +144,7 @@ pub(crate) struct Jump {
 }
 
 /// The jump to a relay that reaches it, else the one that is followed by its address.
-fn far_jump(bits: Bits, ip: u64, to: u64, relay: Option<u64>) -> Jump
+pub(crate) fn far_jump(bits: Bits, ip: u64, to: u64, relay: Option<u64>) -> Jump
     ensures jump { IsFarJump bits ip to relay result }
     ensures short { length result.bytes.items ≤ 15 }
 {
@@ -195,7 +195,7 @@ fn jump_for(
 
 /// The patch: the jump, and CC up to the end of what is taken.
 #[tactic(auto, unfolding(crate::specs::Detours::patch_of))]
-fn patch_of(alloc: Global, jump: &[u8], len: usize) -> Result<Vec<u8>, AllocError>
+pub(crate) fn patch_of(alloc: Global, jump: &[u8], len: usize) -> Result<Vec<u8>, AllocError>
     requires { length jump.now ≤ len }
     ensures { IfOk result (λ patch. patch.items ≡ spec.patch_of jump.now len) }
 {
@@ -206,7 +206,7 @@ fn patch_of(alloc: Global, jump: &[u8], len: usize) -> Result<Vec<u8>, AllocErro
 }
 
 /// The trampoline: the moved block, and the relay to the replacement if there is one.
-fn trampoline_of(
+pub(crate) fn trampoline_of(
     alloc: Global,
     block: &[u8],
     relay: Option<u64>,
@@ -357,7 +357,7 @@ fn detour_by(
         Ok(taken) => taken,
         Err(why) => return Err(why),
     };
-    match first_entry(alloc, bits, ip, code, &taken) {
+    match first_entry(alloc, Follow::Listed, bits, ip, code, &taken) {
         Ok(None) => lay_detour(alloc, bits, ip, to, place, rule, jump, &taken),
         Ok(Some((from, target))) => Err(DetourError::Entered {
             from: u64::from(from),

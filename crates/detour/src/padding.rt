@@ -20,8 +20,8 @@ use crate::start::MoveRule;
 use crate::taken::{Taken, is_padding, read_item};
 use crate::trampoline::lay_trampoline;
 use arrayvec::ArrayVec;
-use flow_graph::FlowError;
 use flow_graph::hook_sight::{Passage, StartRule, look};
+use flow_graph::{FlowError, Follow};
 use move_goals::Placed;
 use plain_spelling::numbers::distance;
 use std::alloc::{AllocError, Global};
@@ -262,7 +262,7 @@ fn take_short(alloc: Global, bits: Bits, ip: u64, code: &[u8]) -> Result<Taken, 
         Ok(taken) => taken,
         Err(why) => return Err(why),
     };
-    match first_entry(alloc, bits, ip, code, &taken) {
+    match first_entry(alloc, Follow::Listed, bits, ip, code, &taken) {
         Ok(None) => Ok(taken),
         Ok(Some((from, target))) => Err(DetourError::Entered {
             from: u64::from(from),

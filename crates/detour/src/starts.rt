@@ -21,7 +21,11 @@ fn start_at(items: &[Placed], k: usize) -> u32
 }
 
 /// Where the first `count` instructions begin, as offsets from the first byte.
-fn starts_to(alloc: Global, items: &[Placed], count: usize) -> Result<Vec<u32>, AllocError>
+pub(crate) fn starts_to(
+    alloc: Global,
+    items: &[Placed],
+    count: usize,
+) -> Result<Vec<u32>, AllocError>
     requires within { count ≤ length items.now }
     requires few { length items.now ≤ 65536 }
     ensures { IfOk result (λ starts. starts.items ≡ spec.starts_to items.now count) }
@@ -42,7 +46,7 @@ fn place_at(addresses: &[u64], place: u64, k: usize) -> u64
 }
 
 /// How far the first `count` addresses lie after a place.
-fn places_to(
+pub(crate) fn places_to(
     alloc: Global,
     addresses: &[u64],
     place: u64,

@@ -114,7 +114,7 @@ pub(crate) fn block_items(
 }
 
 /// Returns how many of the first instructions of the trampoline may go to moved ones: all but the jump back.
-fn follow_count(
+pub(crate) fn follow_count(
     rule: MoveRule,
     bits: Bits,
     ip: u64,
@@ -172,7 +172,12 @@ fn goal_of_target(start: StartTarget, items: &[Placed], count: usize, target: u6
 }
 
 /// The goal of a moved instruction, by its target.
-fn moved_goal(start: StartTarget, items: &[Placed], count: usize, target: Option<u64>) -> Goal
+pub(crate) fn moved_goal(
+    start: StartTarget,
+    items: &[Placed],
+    count: usize,
+    target: Option<u64>,
+) -> Goal
     requires within { count ≤ length items.now }
     requires few { length items.now ≤ 65536 }
     ensures { result ≡ spec.moved_goal start items.now count target }
@@ -184,7 +189,7 @@ fn moved_goal(start: StartTarget, items: &[Placed], count: usize, target: Option
 }
 
 /// The goal of an instruction whose target stays.
-fn kept_goal(target: Option<u64>) -> Goal
+pub(crate) fn kept_goal(target: Option<u64>) -> Goal
     ensures { result ≡ plan.kept_goal target }
 {
     match target {

@@ -283,3 +283,15 @@ pub fn exits_at(bits: Bits, base: u64, bytes: &[u8], offset: usize) -> Exits
 {
     stop_at(Follow::Listed, bits, base, bytes, offset).exits
 }
+
+/// Returns where control goes from the instruction at an offset of some code like [`exits_at`], also from those that `follow` names: from one without a
+/// row to its end, and from XBEGIN to its target too.
+pub fn exits_following(follow: Follow, bits: Bits, base: u64, bytes: &[u8], offset: usize) -> Exits
+    requires inside { offset < length bytes.now }
+    requires few { length bytes.now ≤ 1048576 }
+    ensures exits { AreExits (code_bytes_with follow bits base bytes.now) offset result }
+    ensures short { result.next ≤ 15 }
+    ensures inside { IfSome result.target (λ q. q < length bytes.now) }
+{
+    stop_at(follow, bits, base, bytes, offset).exits
+}

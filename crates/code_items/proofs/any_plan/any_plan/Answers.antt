@@ -2,7 +2,7 @@ use Rattle.std.proofs.Common.{◌≡◌, length, map, arith, ap, ◌∙◌}
 use Rattle.std.specs.List.{range_with_len}
 use Rattle.std.proofs.lemmas.List.FromFn.{length-map-range_with_len}
 use Rattle.branch_sizes.specs.Plan.{one_block}
-use Rattle.code_items.specs.AnyPlan.{any_branch_at, any_plan}
+use Rattle.code_items.specs.AnyPlan.{any_branch_at, any_plan_with}
 use Rattle.code_items.proofs.AnyPlanned.{items_fit}
 use Rattle.code_items.proofs.any_plan.any_plan.Goals as goal
 
@@ -29,7 +29,7 @@ new-requires-clause-fit c =
     items_fit c.laws_below.ensures c.args.bits c.args.items.now c.requires.sound c.items.branches.items are
 
 pub returns : goal.returns
-unfolding any_plan
+unfolding any_plan_with
 returns c =
     let f = any_branch_at c.args.bits c.args.items.now in
     let all : c.items.k ≡ length c.args.items.now = omega (arith, c.items-test.false, c.items.auto.k-end) in

@@ -1,12 +1,12 @@
 use Rattle.std.proofs.Common.{◌≡◌, ◌<◌, ℕ, List, length, get_or, arith, sym, subst}
-use Rattle.flow_graph.specs.Control.{IsSuccessor, code_bytes}
+use Rattle.flow_graph.specs.Control.{IsSuccessor, code_bytes_with}
 use Rattle.detour.specs.Entries.{IsEntry, IsFirstEntry}
 use Rattle.detour.proofs.Entering.{NoneBefore, none_more, none_entered, first_entered}
 use Rattle.detour.proofs.entries.first_entry.Goals as goal
 
 pub returns-in-Some : goal.returns-in-Some
 returns-in-Some c =
-    let code = code_bytes c.args.bits c.args.ip c.args.code.now in
+    let code = code_bytes_with c.args.follow c.args.bits c.args.ip c.args.code.now in
     let items = c.args.taken.now.items.items in
     let e : c.starts-starts.result.now ≡ c.in_ok-graph.graph.starts = c.starts-starts.ensures in
     let none : NoneBefore code items c.in_ok-graph.graph.starts c.starts.k = subst (λ (xs : List ℕ). NoneBefore code items xs c.starts.k) e c.starts.invariant in
@@ -19,11 +19,11 @@ returns-in-Some c =
 
 pub starts-preserved : goal.starts-preserved
 starts-preserved c =
-    none_more (code_bytes c.args.bits c.args.ip c.args.code.now) c.args.taken.now.items.items c.starts-starts.result.now c.starts.k c.starts.invariant c.in_default.ensures
+    none_more (code_bytes_with c.args.follow c.args.bits c.args.ip c.args.code.now) c.args.taken.now.items.items c.starts-starts.result.now c.starts.k c.starts.invariant c.in_default.ensures
 
 pub returns : goal.returns
 returns c =
-    let code = code_bytes c.args.bits c.args.ip c.args.code.now in
+    let code = code_bytes_with c.args.follow c.args.bits c.args.ip c.args.code.now in
     let items = c.args.taken.now.items.items in
     let e : c.starts-starts.result.now ≡ c.in_ok-graph.graph.starts = c.starts-starts.ensures in
     let all : c.starts.k ≡ length c.starts-starts.result.now = omega (arith, c.starts-test.false, c.starts.auto.k-end) in
