@@ -1,5 +1,5 @@
 -- How a text is written, by numbers; what writing it says, and what it leaves in the room.
-use Rattle.std.specs.Prelude.{◌≡◌, ◌⊎◌, ℕ, ◌==◌, ◌^◌, nat_lt, nat_le, ◌&&◌, ℤ, List, length, Option, Some, None, Result, Ok, Err, if◌then◌else◌}
+use Rattle.std.specs.Prelude.{◌≡◌, ◌⊎◌, ℕ, ◌==◌, ◌^◌, nat_lt, nat_le, ◌&&◌, ℤ, List, [], length, Option, Some, None, Result, Ok, Err, if◌then◌else◌}
 use Rattle.x86_values.specs.declared.Bits.{Bits}
 use Rattle.x86_values.specs.declared.Instr.{Instr}
 use Rattle.opcode_rows.specs.Allowed.{is_well_formed}
@@ -19,8 +19,16 @@ use Rattle.text_options.specs.declared.options.RipOperands.{RipOperands}
 use Rattle.text_options.specs.declared.options.RipOperands.TheVariants as rip_operands
 use Rattle.text_options.specs.declared.options.SymbolPlace.{SymbolPlace}
 use Rattle.text_options.specs.declared.options.SymbolPlace.TheVariants as symbol_place
+use Rattle.text_options.specs.declared.options.Names.{Names}
+use Rattle.text_options.specs.declared.options.Names.TheVariants as names
+use Rattle.text_options.specs.declared.options.Distances.{Distances}
+use Rattle.text_options.specs.declared.options.Distances.TheVariants as distances
+use Rattle.text_options.specs.declared.options.Absolutes.{Absolutes}
+use Rattle.text_options.specs.declared.options.Absolutes.TheVariants as absolutes
+use Rattle.text_options.specs.declared.options.Comments.{Comments}
+use Rattle.text_options.specs.declared.options.Comments.TheVariants as comments
 use Rattle.text_options.specs.Answers.{Answer, Answers}
-use Rattle.text_options.specs.Changed.{text_by}
+use Rattle.text_options.specs.Changed.{text_of_bytes}
 use Rattle.c_calls.specs.declared.refusal.Refusal.{Refusal}
 use Rattle.c_calls.specs.declared.refusal.Refusal.TheVariants.{Mode, Syntax, Instr as NoInstr, Form, Room, Memory, TooLarge, Options as BadOptions}
 use Rattle.c_calls.specs.declared.flat.FlatInstr.{FlatInstr}
@@ -81,25 +89,62 @@ symbol_place_numbered n =
     else (if n == 2 then Some symbol_place.Comment
     else (if n == 3 then Some symbol_place.BehindOrComment else None)))
 
+-- whose names a text has, by its number
+unfoldable pub names_numbered : ℕ → Option Names
+names_numbered n =
+    if n == 0 then Some names.Manual
+    else (if n == 1 then Some names.Gnu else None)
+
+-- how distances below zero are written, by its number
+unfoldable pub distances_numbered : ℕ → Option Distances
+distances_numbered n =
+    if n == 0 then Some distances.Signed
+    else (if n == 1 then Some distances.Wrapped else None)
+
+-- how addresses with neither base nor index are written, by its number
+unfoldable pub absolutes_numbered : ℕ → Option Absolutes
+absolutes_numbered n =
+    if n == 0 then Some absolutes.Bracketed
+    else (if n == 1 then Some absolutes.Bare else None)
+
+-- which addresses have a comment, by its number
+unfoldable pub comments_numbered : ℕ → Option Comments
+comments_numbered n =
+    if n == 0 then Some comments.Named
+    else (if n == 1 then Some comments.Distances else None)
+
+-- the number of spaces in front of a comment: 2 for 0
+unfoldable pub gap_numbered : ℕ → ℕ
+gap_numbered n = if n == 0 then 2 else n
+
 -- some options, where each number names a choice
-abbrev pub options_of : Option Letters → Option Digits → Option Immediates → Option Commas → Option SizeWords → ℕ → Option RipOperands → Option SymbolPlace → Option Options
-options_of (Some letters) (Some digits) (Some immediates) (Some commas) (Some size_words) column (Some rip_operands) (Some symbol_place) = Some (record {
-  letters = letters;
-  digits = digits;
-  immediates = immediates;
-  commas = commas;
-  size_words = size_words;
-  operand_column = column;
-  rip_operands = rip_operands;
-  symbol_place = symbol_place;
-})
-options_of _ _ _ _ _ column _ _ = None
+abbrev pub options_of : Option Letters → Option Digits → Option Immediates → Option Commas → Option SizeWords → ℕ → Option RipOperands → Option SymbolPlace
+    → Option Names → Option Distances → Option Absolutes → Option Comments → ℕ → Option Options
+options_of (Some letters) (Some digits) (Some immediates) (Some commas) (Some size_words) column (Some rip_operands) (Some symbol_place)
+    (Some names) (Some distances) (Some absolutes) (Some comments) gap = Some (record {
+      letters = letters;
+      digits = digits;
+      immediates = immediates;
+      commas = commas;
+      size_words = size_words;
+      operand_column = column;
+      rip_operands = rip_operands;
+      symbol_place = symbol_place;
+      names = names;
+      distances = distances;
+      absolutes = absolutes;
+      comments = comments;
+      comment_gap = gap;
+    })
+options_of _ _ _ _ _ column _ _ _ _ _ _ gap = None
 
 -- the options of a struct, none if a number names no choice
 abbrev pub options_back : FlatOptions → Option Options
 options_back f =
     options_of (letters_numbered f.letters) (digits_numbered f.digits) (immediates_numbered f.immediates) (commas_numbered f.commas)
     (size_words_numbered f.size_words) f.operand_column (rip_operands_numbered f.rip_operands) (symbol_place_numbered f.symbol_place)
+    (names_numbered f.names) (distances_numbered f.distances) (absolutes_numbered f.absolutes) (comments_numbered f.comments)
+    (gap_numbered f.comment_gap)
 
 -- ---- the symbol
 
@@ -109,19 +154,23 @@ one_name name offset address = if length name == 0 then None else Some (record {
 
 -- ---- the text
 
--- the text where there are a mode, a style, options and an instruction, of the form that its row asks for
-unfoldable pub format_of : Option Bits → Option Style → Option Options → Option Instr → ℕ → Answers → Result (List ℕ) Refusal
-format_of None style options i end names = Err Mode
-format_of (Some bits) None options i end names = Err Syntax
-format_of (Some bits) (Some style) None i end names = Err BadOptions
-format_of (Some bits) (Some style) (Some options) None end names = Err NoInstr
-format_of (Some bits) (Some style) (Some options) (Some i) end names =
-    if is_well_formed i then Ok (text_by style options bits i end names) else Err Form
+-- the text where there are a mode, a style, options and an instruction, of the form that its row asks for; code are its bytes, or none
+unfoldable pub format_of : Option Bits → Option Style → Option Options → List ℕ → Option Instr → ℕ → Answers → Result (List ℕ) Refusal
+format_of None style options code i end answers = Err Mode
+format_of (Some bits) None options code i end answers = Err Syntax
+format_of (Some bits) (Some style) None code i end answers = Err BadOptions
+format_of (Some bits) (Some style) (Some options) code None end answers = Err NoInstr
+format_of (Some bits) (Some style) (Some options) code (Some i) end answers =
+    if is_well_formed i then Ok (text_of_bytes style options bits code i end answers) else Err Form
+
+-- the text of a struct that was read from some bytes, by options and with a symbol, or why it has none
+abbrev pub format_code_answer : ℕ → ℕ → FlatOptions → List ℕ → FlatInstr → ℕ → List ℕ → ℕ → Result (List ℕ) Refusal
+format_code_answer bits syntax options code f end name offset =
+    format_of (bits_numbered bits) (style_numbered syntax) (options_back options) code (instr_back f) end (one_name name offset)
 
 -- the text of a struct by options and with a symbol, or why it has none
 abbrev pub format_answer : ℕ → ℕ → FlatOptions → FlatInstr → ℕ → List ℕ → ℕ → Result (List ℕ) Refusal
-format_answer bits syntax options f end name offset =
-    format_of (bits_numbered bits) (style_numbered syntax) (options_back options) (instr_back f) end (one_name name offset)
+format_answer bits syntax options f end name offset = format_code_answer bits syntax options [] f end name offset
 
 -- a text has fewer than 2 ^ 31 bytes
 unfoldable pub format_short : Result (List ℕ) Refusal → Result (List ℕ) Refusal

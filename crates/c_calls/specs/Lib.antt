@@ -28,6 +28,7 @@ pub mod Lengths
 pub mod Steps
 pub mod StepCalls
 pub mod UnlistedSteps
+pub mod UnlistedDetours
 pub mod Failing
 pub mod Regions
 pub mod RegionSearch

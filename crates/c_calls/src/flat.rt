@@ -429,4 +429,14 @@ pub struct FlatOptions {
     pub rip_operands: u8,
     /// A symbol: 0 behind the number, 1 in its place, 2 in a comment, 3 in a comment for memory.
     pub symbol_place: u8,
+    /// Names, letters and prefixes: 0 the manual's, 1 GNU's.
+    pub names: u8,
+    /// Distances below zero: 0 with a minus, 1 as a number without a sign.
+    pub distances: u8,
+    /// An address with neither base nor index: 0 in brackets, 1 without.
+    pub absolutes: u8,
+    /// Comments: 0 of addresses with a symbol, 1 also of those that are written as a distance.
+    pub comments: u8,
+    /// The number of spaces in front of a comment, 0 for 2.
+    pub comment_gap: u8,
 }

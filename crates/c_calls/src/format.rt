@@ -2,7 +2,7 @@
 
 ghost use Rattle.std.specs.Prelude.{◌≡◌, ◌^◌, ◌<◌, nat_lt, length, IsTrue, IfOk, Ok};
 ghost use Rattle.opcode_rows.specs.Allowed.{is_well_formed};
-ghost use Rattle.text_options.specs.Changed.{text_by};
+ghost use Rattle.text_options.specs.Changed.{text_of_bytes};
 ghost use Rattle.c_calls.specs.Answers as said;
 ghost use Rattle.c_calls.specs.Formatting as spec;
 
@@ -15,10 +15,11 @@ use decoder::UNREAD;
 use opcode_rows::well_formed;
 use std::alloc::{AllocError, Global};
 use text_options::options::{
-    Commas, Digits, Immediates, Letters, Options, RipOperands, SizeWords, SymbolPlace,
+    Absolutes, Commas, Comments, Digits, Distances, Immediates, Letters, Names, Options,
+    RipOperands, SizeWords, SymbolPlace,
 };
 use text_options::symbols::{Symbol, Symbols};
-use text_options::text_with;
+use text_options::text_of_code;
 use text_parts::style::Style;
 use x86_values::{Bits, Instr};
 
@@ -116,6 +117,62 @@ fn symbol_place_numbered(n: u8) -> Option<SymbolPlace>
     }
 }
 
+/// Returns whose names a text has, by its number.
+#[tactic(auto, unfolding(crate::specs::Formatting::names_numbered))]
+fn names_numbered(n: u8) -> Option<Names>
+    ensures { result ≡ spec.names_numbered n }
+{
+    match n {
+        0 => Some(Names::Manual),
+        1 => Some(Names::Gnu),
+        _ => None,
+    }
+}
+
+/// Returns how distances below zero are written, by its number.
+#[tactic(auto, unfolding(crate::specs::Formatting::distances_numbered))]
+fn distances_numbered(n: u8) -> Option<Distances>
+    ensures { result ≡ spec.distances_numbered n }
+{
+    match n {
+        0 => Some(Distances::Signed),
+        1 => Some(Distances::Wrapped),
+        _ => None,
+    }
+}
+
+/// Returns how addresses with neither base nor index are written, by its number.
+#[tactic(auto, unfolding(crate::specs::Formatting::absolutes_numbered))]
+fn absolutes_numbered(n: u8) -> Option<Absolutes>
+    ensures { result ≡ spec.absolutes_numbered n }
+{
+    match n {
+        0 => Some(Absolutes::Bracketed),
+        1 => Some(Absolutes::Bare),
+        _ => None,
+    }
+}
+
+/// Returns which addresses have a comment, by its number.
+#[tactic(auto, unfolding(crate::specs::Formatting::comments_numbered))]
+fn comments_numbered(n: u8) -> Option<Comments>
+    ensures { result ≡ spec.comments_numbered n }
+{
+    match n {
+        0 => Some(Comments::Named),
+        1 => Some(Comments::Distances),
+        _ => None,
+    }
+}
+
+/// Returns the number of spaces in front of a comment: 2 for 0.
+#[tactic(auto, unfolding(crate::specs::Formatting::gap_numbered))]
+fn gap_numbered(n: u8) -> u8
+    ensures { result ≡ spec.gap_numbered n }
+{
+    if n == 0 { 2 } else { n }
+}
+
 /// Returns the options of a struct.
 fn options_back(flat: &FlatOptions) -> Option<Options>
     ensures { result ≡ spec.options_back flat.now }
@@ -127,6 +184,10 @@ fn options_back(flat: &FlatOptions) -> Option<Options>
     let size_words = size_words_numbered(flat.size_words)?;
     let rip_operands = rip_operands_numbered(flat.rip_operands)?;
     let symbol_place = symbol_place_numbered(flat.symbol_place)?;
+    let names = names_numbered(flat.names)?;
+    let distances = distances_numbered(flat.distances)?;
+    let absolutes = absolutes_numbered(flat.absolutes)?;
+    let comments = comments_numbered(flat.comments)?;
     Some(Options {
         letters,
         digits,
@@ -136,6 +197,11 @@ fn options_back(flat: &FlatOptions) -> Option<Options>
         operand_column: flat.operand_column,
         rip_operands,
         symbol_place,
+        names,
+        distances,
+        absolutes,
+        comments,
+        comment_gap: gap_numbered(flat.comment_gap),
     })
 }
 
@@ -168,20 +234,23 @@ fn text_of(
     style: Style,
     options: &Options,
     bits: Bits,
+    code: &[u8],
     instr: &Instr,
     end: u64,
     name: &[u8],
     offset: u64,
 ) -> Result<Vec<u8>, AllocError>
     requires { IsTrue (is_well_formed instr.now) }
-    ensures { IfOk result (λ text. text.items ≡ text_by style options.now bits instr.now end (spec.one_name name.now offset)) }
+    ensures { IfOk result (λ text. text.items
+        ≡ text_of_bytes style options.now bits code.now instr.now end (spec.one_name name.now offset)) }
 {
     let mut text = Vec::new(alloc);
-    text_with(
+    text_of_code(
         &mut text,
         style,
         options,
         bits,
+        code,
         instr,
         end,
         &OneName { name, offset },
@@ -216,6 +285,7 @@ fn put_format(
     style: Style,
     options: &Options,
     bits: Bits,
+    code: &[u8],
     instr: &Instr,
     end: u64,
     name: &[u8],
@@ -223,16 +293,16 @@ fn put_format(
     out: &mut [u8],
 ) -> i32
     requires { IsTrue (is_well_formed instr.now) }
-    ensures { spec.IsFormat out.old out.new result (Ok (text_by style options.now bits instr.now end (spec.one_name name.now offset))) }
+    ensures { spec.IsFormat out.old out.new result
+        (Ok (text_of_bytes style options.now bits code.now instr.now end (spec.one_name name.now offset))) }
 {
-    match text_of(alloc, style, options, bits, instr, end, name, offset) {
+    match text_of(alloc, style, options, bits, code, instr, end, name, offset) {
         Ok(text) => put_short(&text, out),
         Err(_) => refusal_status(Refusal::Memory),
     }
 }
 
 /// Writes the text of an instruction in a style by options, with a symbol at the address that it names, and returns the length of the text in bytes.
-#[tactic(auto, unfolding(crate::specs::Formatting::format_of))]
 pub fn format(
     alloc: Global,
     bits: u32,
@@ -245,6 +315,38 @@ pub fn format(
     out: &mut [u8],
 ) -> i32
     ensures { spec.IsFormat out.old out.new result (spec.format_answer bits syntax options.now instr.now end name.now offset) }
+{
+    format_code(
+        alloc,
+        bits,
+        syntax,
+        options,
+        &[],
+        instr,
+        end,
+        name,
+        offset,
+        out,
+    )
+}
+
+/// Writes the text of an instruction that was read from some bytes, in a style by options, with a symbol at the address that it names, and returns the length
+/// of the text in bytes.
+#[tactic(auto, unfolding(crate::specs::Formatting::format_of))]
+pub fn format_code(
+    alloc: Global,
+    bits: u32,
+    syntax: u32,
+    options: &FlatOptions,
+    code: &[u8],
+    instr: &FlatInstr,
+    end: u64,
+    name: &[u8],
+    offset: u64,
+    out: &mut [u8],
+) -> i32
+    ensures { spec.IsFormat out.old out.new result
+        (spec.format_code_answer bits syntax options.now code.now instr.now end name.now offset) }
 {
     let Some(bits) = bits_numbered(bits) else {
         return refusal_status(Refusal::Mode);
@@ -259,7 +361,9 @@ pub fn format(
     match instr_back_into(instr, &mut read) {
         None => refusal_status(Refusal::Instr),
         Some(()) if well_formed(&read) => {
-            put_format(alloc, style, &options, bits, &read, end, name, offset, out)
+            put_format(
+                alloc, style, &options, bits, code, &read, end, name, offset, out,
+            )
         }
         Some(()) => refusal_status(Refusal::Form),
     }

@@ -174,7 +174,7 @@ pub(crate) fn detour_report(d: &Detour) -> FlatDetour
 }
 
 /// Returns the report of a result.
-fn hook_report(answer: &Result<Detour, HookRefusal>) -> FlatDetour
+pub(crate) fn hook_report(answer: &Result<Detour, HookRefusal>) -> FlatDetour
     ensures { result ≡ spec.hook_report answer.now }
 {
     match answer {
@@ -212,7 +212,11 @@ fn hook_of(
 
 /// Writes the patch and the trampoline, if both buffers are large enough.
 #[tactic(auto, unfolding(crate::specs::Hooks::hook_within))]
-fn put_hook(answer: &Result<Detour, HookRefusal>, patch: &mut [u8], trampoline: &mut [u8]) -> i32
+pub(crate) fn put_hook(
+    answer: &Result<Detour, HookRefusal>,
+    patch: &mut [u8],
+    trampoline: &mut [u8],
+) -> i32
     ensures said { result ≡ spec.hook_said (spec.hook_within (length patch.old) (length trampoline.old) answer.now) }
     ensures patch { patch.new ≡ spec.patch_left patch.old (spec.hook_within (length patch.old) (length trampoline.old) answer.now) }
     ensures trampoline { trampoline.new ≡ spec.trampoline_left trampoline.old (spec.hook_within (length patch.old) (length trampoline.old) answer.now) }

@@ -46,5 +46,6 @@ pub mod step_calls;
 pub mod stepping;
 pub mod texts;
 mod unflatten;
+pub mod unlisted_detour;
 pub mod unlisted_step;
 pub mod version;

@@ -9,13 +9,12 @@ use crate::buffers::{count_answer, write_text};
 use crate::flat::{FlatInstr, FlatPiece};
 use crate::numbers::{bits_numbered, style_numbered};
 use crate::refusal::{Refusal, refusal_status};
-use crate::texts::append_style_text;
 use crate::unflatten::instr_back_into;
 use decoder::UNREAD;
 use opcode_rows::well_formed;
 use text_parts::style::Style;
-use text_parts::text::Text;
-use text_pieces::piece::{Kind, Number, Piece, Role};
+use text_pieces::piece::{Kind, Number, Piece, Printed, Role};
+use text_pieces::print_pieces;
 use x86_values::{Bits, Instr};
 
 /// The number of a kind.
@@ -90,6 +89,15 @@ fn write_pieces(out: &mut [FlatPiece], pieces: &[Piece])
     }
 }
 
+/// Prints a well-formed instruction in a style, and its pieces.
+fn print_shown(printed: &mut Printed, style: Style, bits: Bits, instr: &Instr)
+    requires { IsTrue (is_well_formed instr.now) }
+    ensures text { printed.new.text.items ≡ (spec.shown style bits instr.now).text }
+    ensures pieces { printed.new.pieces.items ≡ (spec.shown style bits instr.now).pieces }
+{
+    print_pieces(printed, style, bits, instr);
+}
+
 /// Writes the text of a well-formed instruction in a style and its pieces, if the buffers hold them, and returns how many pieces there are.
 #[tactic(auto, unfolding(crate::specs::Pieces::shown_within))]
 fn put_pieces(
@@ -104,14 +112,14 @@ fn put_pieces(
     ensures text { text.new ≡ spec.text_left text.old (spec.shown_within (length text.old) (length out.old) (Ok (spec.shown style bits instr.now))) }
     ensures pieces { out.new ≡ spec.pieces_left out.old (spec.shown_within (length text.old) (length out.old) (Ok (spec.shown style bits instr.now))) }
 {
-    let mut shown = Text::new();
-    append_style_text(&mut shown, style, bits, instr);
-    let pieces = text_pieces::pieces(style, bits, instr);
-    if shown.len() >= text.len() || pieces.len() > out.len() {
+    let mut shown = Printed::default();
+    print_shown(&mut shown, style, bits, instr);
+    let pieces = shown.pieces.as_slice();
+    if shown.text.len() >= text.len() || pieces.len() > out.len() {
         return refusal_status(Refusal::Room);
     }
-    write_text(text, &shown);
-    write_pieces(out, &pieces);
+    write_text(text, &shown.text);
+    write_pieces(out, pieces);
     count_answer(pieces.len())
 }
 

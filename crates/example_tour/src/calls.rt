@@ -1,12 +1,12 @@
 //! The calls that users meet first, each with its result. The docstrings of the library show these lines as their examples.
 
 use bitflags::Flags;
-use feddurzai::assembling::{Assembler, assemble, assemble_code, read_intel};
+use feddurzai::assembling::{Assembler, assemble, assemble_code, assemble_code_with, read_intel};
 use feddurzai::decoding::{Decoder, Items, decode_in, read_items};
 use feddurzai::encoding::{encode, encoded_len};
 use feddurzai::flow::graph_of_code;
 use feddurzai::format::{
-    Intel, NoSymbols, Options, RipOperands, Style, ascii_str, pieces, print_att, text_with,
+    Intel, NoSymbols, Options, Printed, RipOperands, Style, ascii_str, pieces, print_att, print_pieces, text_with,
 };
 use feddurzai::hooks::{
     HookRules, Hooks, StartRule, StartTarget, detour, detour_keeping_endbr, detour_len,
@@ -117,6 +117,24 @@ fn assemble_lines(rt: &HostRuntime) -> anyhow::Result<()> {
     Ok(())
 }
 
+/// Assembles a look-up in a table.
+fn assemble_table(rt: &HostRuntime) -> anyhow::Result<()> {
+    let text =
+        b"CMP EDI, 3\n jnb none\n movzx eax, byte ptr [table]\n ret\nnone: xor eax,eax\n ret\ntable: db 7, 2Ah, 'A'";
+    let made = assemble_code(rt.alloc(), Bits::B64, 0x40_1000, text)?;
+    println!(rt; "{}", hex::encode(rt.alloc(), made.bytes())?)?; // 83ff0373080fb60504000000c331c0c3072a41
+    Ok(())
+}
+
+/// Assembles a call of a name.
+fn assemble_named(rt: &HostRuntime) -> anyhow::Result<()> {
+    let names = b"puts = 0x401180\nSIZE = 24";
+    let text = b"mov edi, SIZE-1\n call puts\n ret";
+    let made = assemble_code_with(rt.alloc(), Bits::B64, 0x40_1000, names, text)?;
+    println!(rt; "{}", hex::encode(rt.alloc(), made.bytes())?)?; // bf17000000e876010000c3
+    Ok(())
+}
+
 /// Puts a load from a table together.
 fn build_table(rt: &HostRuntime) -> anyhow::Result<()> {
     // A load from a table that lies behind the code.
@@ -143,9 +161,19 @@ fn print_one(rt: &HostRuntime) -> anyhow::Result<()> {
 /// Shows where the pieces of a text stand.
 fn show_pieces(rt: &HostRuntime) -> anyhow::Result<()> {
     let read = decode_in(Bits::B64, 0x40_1000, b"\xe8\xfb\x0f\x00\x00")?; // call 0x402000
-    for piece in pieces(Style::Intel, Bits::B64, &read.instr).iter() {
+    for piece in pieces(Style::Intel, Bits::B64, &read.instr).as_slice() {
         println!(rt; "{} {} {:?}", piece.start, piece.end, piece.kind)?; // 0 4 Mnemonic, then 4 5 Space, then the number
     }
+    Ok(())
+}
+
+/// Prints an instruction with its pieces.
+fn print_and_count(rt: &HostRuntime) -> anyhow::Result<()> {
+    let read = decode_in(Bits::B64, 0x40_1000, b"\xe8\xfb\x0f\x00\x00")?;
+    let mut printed = Printed::default();
+    print_pieces(&mut printed, Style::Intel, Bits::B64, &read.instr);
+    let count = printed.pieces.as_slice().len();
+    println!(rt; "{} has {count} pieces", from_utf8(&printed.text)?)?; // call 0x402000 has 3 pieces
     Ok(())
 }
 
@@ -412,8 +440,11 @@ fn run_reading(rt: &HostRuntime) -> anyhow::Result<()> {
     build_loop(rt)?;
     build_table(rt)?;
     assemble_lines(rt)?;
+    assemble_table(rt)?;
+    assemble_named(rt)?;
     print_one(rt)?;
     show_pieces(rt)?;
+    print_and_count(rt)?;
     show_distance(rt)
 }
 

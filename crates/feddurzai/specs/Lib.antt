@@ -26,6 +26,7 @@ pub use Rattle.intel_reader.specs.Assembled
 pub use Rattle.code_assembler.specs.Routine
 pub use Rattle.code_assembler.specs.Built as BuiltRoutines
 pub use Rattle.code_assembler.specs.Finished as FinishedRoutines
+pub use Rattle.assembly_text.specs.Text as AssemblyTexts
 pub use Rattle.intel_text.specs.Text as IntelText
 pub use Rattle.att_text.specs.Text as AttText
 pub use Rattle.masm_text.specs.Text as MasmText
@@ -90,6 +91,8 @@ pub use Rattle.detour.specs.Rules as HookRules
 pub use Rattle.detour.specs.Kept as KeptHooks
 pub use Rattle.detour.specs.Padding as PaddingHooks
 pub use Rattle.detour.specs.Lengths as TrampolineLengths
+pub use Rattle.detour.specs.AnyDetours as UnlistedHooks
+pub use Rattle.detour.specs.AnyTaken as UnlistedTaken
 pub use Rattle.detour.specs.Writes as PatchWrites
 pub use Rattle.detour.specs.HookSlots.State as HookState
 pub use Rattle.detour.specs.HookSlots.Opening as HookOpening

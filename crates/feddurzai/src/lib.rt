@@ -58,10 +58,10 @@ pub mod encoding {
 /// Assembling: the instruction that an Intel text stands for, and its bytes; and routines of instructions and labels. `Assembler` puts one together, and
 /// `finish` gives its bytes in the least layout.
 pub mod assembling {
-    pub use code_assembler::{
-        AssembleError, Assembled, Assembler, BuildError, FinishError, Label, LineError,
-        assemble_code,
+    pub use assembly_text::{
+        AssembleError, LineError, assemble_code, assemble_code_with, laws as text_laws,
     };
+    pub use code_assembler::{Assembled, Assembler, BuildError, FinishError, Label};
     pub use intel_reader::{TextError, assemble, laws, read_intel};
 }
 
@@ -73,15 +73,16 @@ pub mod format {
     pub use intel_text::{print as print_intel, print_to as print_intel_to};
     pub use masm_text::{print as print_masm, print_to as print_masm_to};
     pub use text_options::options::{
-        Commas, Digits, Immediates, Letters, Options, RipOperands, SizeWords, SymbolPlace,
+        Absolutes, Commas, Comments, Digits, Distances, Immediates, Letters, Names, Options,
+        RipOperands, SizeWords, SymbolPlace,
     };
     pub use text_options::symbols::{NoSymbols, Symbol, Symbols};
-    pub use text_options::{laws as option_laws, text_with};
+    pub use text_options::{laws as option_laws, text_of_code, text_with};
     pub use text_parts::registers::{register_text, segment_name};
     pub use text_parts::style::Style;
     pub use text_parts::text::{Text, ascii_str};
-    pub use text_pieces::piece::{Kind, Number, PIECES, Piece, Pieces, Role};
-    pub use text_pieces::pieces;
+    pub use text_pieces::piece::{Kind, Number, PIECES, Piece, Pieces, Printed, Role};
+    pub use text_pieces::{pieces, print_pieces};
 }
 
 /// What an instruction does: its flow, the access of its operands, its registers, memory and flags, implied ones too, its targets and features. What ends
@@ -194,7 +195,7 @@ pub mod hooks {
     pub use detour::{
         Detour, DetourError, HookRules, JumpForm, KeepError, KeptDetour, PaddedDetour,
         PaddingError, Parts, RuleError, SeenDetour, StartTarget, detour, detour_keeping_endbr,
-        detour_through_padding, detour_with,
+        detour_through_padding, detour_unlisted, detour_with,
     };
     pub use flow_graph::hook_sight::{
         Passage, Sight, SightEnd, StartRule, View, laws as sight_laws, look,

@@ -18,5 +18,6 @@ mod region;
 mod rows;
 mod stepping;
 mod texts;
+mod unlisted;
 mod version;
 mod writing;

@@ -4,7 +4,7 @@ ghost use Rattle.std.specs.Prelude.{length, ◌≡◌};
 ghost use Rattle.c_calls.specs.Answers.{count_or_refusal, text_answer, text_within, with_text};
 ghost use Rattle.c_calls.specs.Effects.{feature_answer};
 ghost use Rattle.c_calls.specs.Names.{register_answer, segment_answer};
-ghost use Rattle.c_calls.specs.Formatting.{IsFormat, format_answer};
+ghost use Rattle.c_calls.specs.Formatting.{IsFormat, format_answer, format_code_answer};
 ghost use Rattle.c_calls.specs.Pieces.{pieces_left, pieces_said, shown_answer, shown_within, text_left};
 
 use c_calls::flat::{FlatInstr, FlatOptions, FlatPiece};
@@ -63,6 +63,29 @@ pub extern "C" fn feddurzai_format(
     ensures { IsFormat out.old out.new result (format_answer bits syntax options.now instr.now end name.now offset) }
 {
     format::format(alloc, bits, syntax, options, instr, end, name, offset, out)
+}
+
+/// Writes the text of an instruction as `feddurzai_format` does, with the bytes that it was read from. GNU's names show prefixes that have no effect, and all of
+/// them in their order. With no bytes the text is that of `feddurzai_format`. Refusals: those of `feddurzai_format`.
+#[unsafe(no_mangle)]
+pub extern "C" fn feddurzai_format_code(
+    alloc: Global,
+    bits: u32,
+    syntax: u32,
+    options: &FlatOptions,
+    code: &[u8],
+    instr: &FlatInstr,
+    end: u64,
+    name: &[u8],
+    offset: u64,
+    out: &mut [u8],
+) -> i32
+    ensures { IsFormat out.old out.new result
+        (format_code_answer bits syntax options.now code.now instr.now end name.now offset) }
+{
+    format::format_code(
+        alloc, bits, syntax, options, code, instr, end, name, offset, out,
+    )
 }
 
 /// Writes the name of a register in a style, ASCII, with a terminating 0, and returns the length of the name, at most 6.

@@ -7,3 +7,4 @@ mod length_tests;
 mod padding_tests;
 mod rule_tests;
 mod tests;
+mod unlisted_tests;

@@ -1,7 +1,7 @@
 //! Routines as text. The bytes are those of GNU as for the same lines.
 
 use crate::tests::compare::same;
-use code_assembler::assemble_code;
+use assembly_text::{assemble_code, assemble_code_with};
 use std::alloc::Global;
 use std::test::Fail;
 use x86_values::Bits;
@@ -45,24 +45,70 @@ const CASES: &[Case] = &[
     (Bits::B64, 0x1000, "jmp end\nnop\nend:", "eb0190"),
     // what is read as it stands is no name
     (Bits::B64, 0, "rax: jmp rax", "ffe0"),
+    // other names, numbers, sums, cases and blanks
+    (
+        Bits::B64,
+        0x1000,
+        "JZ 0x1000\nCMOVNAE rax,RBX\nsetnz\tal\nsal eax, 3\nmov eax, 0b101\nmov ecx, 10+5-3\nmov al, 0FFh\nrepz cmpsb",
+        "74fe480f42c30f95c0c1e003b805000000b90c000000b0fff3a6",
+    ),
+    // numbers below 0
+    (
+        Bits::B64,
+        0,
+        "push -1\nmov rax, -1\nadd eax, -8\nmov al, -1\nimul eax, ecx, -3",
+        "6aff48c7c0ffffffff83c0f8b0ff6bc1fd",
+    ),
+    // addresses
+    (
+        Bits::B64,
+        0,
+        "mov eax,[rbx]\nmov eax, dword ptr [8+rax*4+rbx]\nlea rax,[rbp]\nmov eax, [rbx+rsp]\nmov eax, [4*rax]\nmov rax,[fs:28h]\ncmp byte ptr [rax-1], -1",
+        "8b038b448308488d45008b041c8b04850000000064488b0425280000008078ffff",
+    ),
+    // data
+    (
+        Bits::B64,
+        0,
+        "movzx eax, byte ptr [table]\nret\ntable: db 1, -1, 'a,b', \"it's\"\nDW 'abc', 1234h\ndd 10+2\ndq -1",
+        "0fb60501000000c301ff612c62697427736162630034120c000000ffffffffffffffff",
+    ),
+    (
+        Bits::B64,
+        0,
+        "mov [rbx], 5",
+        "line 1, column 1: the address needs a size",
+    ),
+    (
+        Bits::B64,
+        0,
+        "db 1\ndb 256",
+        "line 2, column 1: no number of this size, and no string",
+    ),
+    (
+        Bits::B64,
+        0,
+        " here:\t mov rax+1, rbx",
+        "line 1, column 9: no instruction has this text",
+    ),
     // refusals, the first line first
     (
         Bits::B64,
         0,
         "nop\njmp there\nfrob",
-        "line 2: no line has a label of this name",
+        "line 2, column 1: no line has a label of this name",
     ),
     (
         Bits::B64,
         0,
         "nop\n\nfrob eax",
-        "line 3: no instruction has this text",
+        "line 3, column 1: no instruction has this text",
     ),
     (
         Bits::B64,
         0,
         "a: nop\nb:\na: ret",
-        "line 3: label 0 has a place already",
+        "line 3, column 1: label 0 has a place already",
     ),
     (
         Bits::B16,
@@ -76,6 +122,56 @@ const CASES: &[Case] = &[
 fn texts_have_their_bytes(rt: HostRuntime) -> Result<(), Fail> {
     for (bits, base, text, want) in CASES {
         let found = made(rt.alloc(), *bits, *base, text)?;
+        same(&rt, text, &found.as_str(), want);
+    }
+    Ok(())
+}
+
+/// Names, a text with them in 64-bit mode, and its bytes or why there are none.
+type NamedCase = (&'static str, &'static str, &'static str);
+
+const NAMED_CASES: &[NamedCase] = &[
+    (
+        "puts = 0x401180 ; a call\n\n Size=3*1+20h-20h+21",
+        "",
+        "line 3 of the names is no name with a number",
+    ),
+    (
+        "puts = 0x401180 ; a call\n\n Size=20h-8\nSize = 1",
+        "mov edi, Size-1\nlea rax, [rel puts]\ncall puts\ndb 'Size', Size\npush size",
+        "line 5, column 1: no line has a label of this name",
+    ),
+    (
+        "puts = 0x401180 ; a call\n\n Size=20h-8\nSize = 1",
+        "mov edi, Size-1\nlea rax, [rel puts]\ncall puts\ndb 'Size', Size",
+        "bf17000000488d0574010000e86f01000053697a6518",
+    ),
+    (
+        "rax = 1",
+        "",
+        "line 1 of the names is no name with a number",
+    ),
+    ("x", "", "line 1 of the names is no name with a number"),
+];
+
+/// The bytes of a text with names as hexadecimal digits, or why there are none.
+fn named(alloc: Global, names: &str, text: &str) -> Result<String, Fail> {
+    match assemble_code_with(
+        alloc,
+        Bits::B64,
+        0x40_1000,
+        names.as_bytes(),
+        text.as_bytes(),
+    ) {
+        Ok(made) => Ok(hex::encode(alloc, made.bytes())?),
+        Err(why) => Ok(format!(in alloc; "{why}")?),
+    }
+}
+
+#[test]
+fn names_have_their_numbers(rt: HostRuntime) -> Result<(), Fail> {
+    for (names, text, want) in NAMED_CASES {
+        let found = named(rt.alloc(), names, text)?;
         same(&rt, text, &found.as_str(), want);
     }
     Ok(())

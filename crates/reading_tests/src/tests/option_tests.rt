@@ -11,7 +11,7 @@ use text_options::options::{
     Commas, Digits, Immediates, Letters, Options, RipOperands, SizeWords, SymbolPlace,
 };
 use text_options::symbols::{Symbol, Symbols};
-use text_options::text_with;
+use text_options::text_of_code;
 use text_parts::style::Style;
 use x86_values::Bits;
 
@@ -24,17 +24,47 @@ intel |  | e8fb0f0000 | call 0x402000 <puts@plt>
 # as objdump
 masm | gnu | 48895c2410 | mov    QWORD PTR [rsp+0x10],rbx
 masm | gnu | 0fb647f8 | movzx  eax,BYTE PTR [rdi-0x8]
-masm | gnu | f0658305fe0f0000ff | lock add DWORD PTR gs:[rip+0xffe],0xffffffff
+masm | gnu | f0658305fe0f0000ff | lock add DWORD PTR gs:[rip+0xffe],0xffffffff        # 402007
 masm | gnu | 8b049d08000000 | mov    eax,DWORD PTR [rbx*4+0x8]
 masm | gnu | c1e81f | shr    eax,0x1f
 masm | gnu | eb0e | jmp    0x401010
-masm | gnu | f20f1005bd2e0000 | movsd  xmm0,QWORD PTR [rip+0x2ebd]
+masm | gnu | f20f1005bd2e0000 | movsd  xmm0,QWORD PTR [rip+0x2ebd]        # 403ec5
+masm | gnu | 488d3d43d1ffff | lea    rdi,[rip+0xffffffffffffd143]        # 3fe14a
+masm | gnu | 6690 | xchg   ax,ax
+masm | gnu | 66662e0f1f840000000000 | data16 cs nop WORD PTR [rax+rax*1+0x0]
+masm | gnu | 48b88877665544332211 | movabs rax,0x1122334455667788
+masm | gnu | 64488b042528000000 | mov    rax,QWORD PTR fs:0x28
+masm | gnu | 8b042530000000 | mov    eax,DWORD PTR ds:0x30
+masm | gnu | f348ab | rep stos QWORD PTR es:[rdi],rax
+masm | gnu | f3a6 | repz cmps BYTE PTR ds:[rsi],BYTE PTR es:[rdi]
+masm | gnu | 48d1fe | sar    rsi,1
+masm | gnu | d8c1 | fadd   st,st(1)
+masm | gnu | f3c3 | repz ret
+masm | gnu | f2c3 | bnd ret
+masm | gnu | 3effe0 | notrack jmp rax
+masm | gnu | 4889c0 | mov    rax,rax
+masm | gnu | 4c90 | rex.WR nop
+masm | gnu | 9b | fwait
+masm | gnu | ec | in     al,dx
 masm | gnu | e8fb0f0000 | call   0x402000 <puts@plt>
-masm | gnu | 488d3dbd2e0000 | lea    rdi,[rip+0x2ebd]  # 403ec4 <message+0x4>
-att | gnu | 488d3d43d1ffff | lea    -0x2ebd(%rip),%rdi
-att | gnu | c1e81f | shr    $0x1f,%eax
-att | gnu | 0fb647f8 | movzbl -0x8(%rdi),%eax
-att | gnu | f0658305fe0f0000ff | lock addl $0xffffffff,%gs:0xffe(%rip)
+masm | gnu | 488d3dbd2e0000 | lea    rdi,[rip+0x2ebd]        # 403ec4 <message+0x4>
+att | gnu_att | 488d3d43d1ffff | lea    -0x2ebd(%rip),%rdi        # 3fe14a
+att | gnu_att | c1e81f | shr    $0x1f,%eax
+att | gnu_att | 0fb647f8 | movzbl -0x8(%rdi),%eax
+att | gnu_att | f0658305fe0f0000ff | lock addl $0xffffffff,%gs:0xffe(%rip)        # 402007
+att | gnu_att | 6690 | xchg   %ax,%ax
+att | gnu_att | 48895c2410 | mov    %rbx,0x10(%rsp)
+att | gnu_att | c70001000000 | movl   $0x1,(%rax)
+att | gnu_att | ff10 | call   *(%rax)
+att | gnu_att | 662e0f1f840000000000 | cs nopw 0x0(%rax,%rax,1)
+att | gnu_att | f348a5 | rep movsq %ds:(%rsi),%es:(%rdi)
+att | gnu_att | 48d1fe | sar    %rsi
+att | gnu_att | d120 | shll   (%rax)
+att | gnu_att | 4898 | cltq
+att | gnu_att | dee9 | fsubrp %st,%st(1)
+att | gnu_att | f2480f2a00 | cvtsi2sdq (%rax),%xmm0
+att | gnu_att | ee | out    %al,(%dx)
+att | gnu_att | c8100000 | enter  $0x10,$0x0
 # symbols
 intel | instead | e8fb0f0000 | call puts@plt
 intel | instead | 488d3dbd2e0000 | lea rdi, [rel message+0x4]
@@ -97,6 +127,7 @@ impl Symbols for Known {
 fn with_word(mut options: Options, word: &str) -> Result<Options, Fail> {
     match word {
         "gnu" => options = Options::GNU,
+        "gnu_att" => options = Options::GNU_ATT,
         "instead" => options.symbol_place = SymbolPlace::Instead,
         "comment" => options.symbol_place = SymbolPlace::Comment,
         "distance" => options.rip_operands = RipOperands::Distance,
@@ -139,13 +170,15 @@ fn style_of(word: &str) -> Result<Style, Fail> {
 /// The text of an instruction at 0x401000 by options.
 fn text_of(alloc: Global, style: Style, options: &Options, digits: &str) -> Result<Vec<u8>, Fail> {
     let decoded = read(alloc, Bits::B64, 0x40_1000, digits)?;
+    let code = hex::decode(alloc, digits)?;
     let end = 0x40_1000 + u64::from(decoded.len);
     let mut text = Vec::new(alloc);
-    text_with(
+    text_of_code(
         &mut text,
         style,
         options,
         Bits::B64,
+        &code,
         &decoded.instr,
         end,
         &Known,

@@ -136,7 +136,7 @@ fn line_of(alloc: Global, mode: &str, name: &str, digits: &str) -> Result<String
     let instr = read(alloc, bits, 0, digits)?.instr;
     let text = text_of(style, bits, &instr);
     let mut line = format!(in alloc; "{mode} | {name} | {digits} |")?;
-    for piece in pieces(style, bits, &instr).iter() {
+    for piece in pieces(style, bits, &instr).as_slice().iter() {
         push_piece(alloc, &mut line, text.as_slice(), piece)?;
     }
     Ok(line)
