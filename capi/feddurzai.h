@@ -23,7 +23,7 @@
  * Threads: the library has no global state and takes no locks, so any number of threads may call it at once.
  *
  * Memory: feddurzai_move, feddurzai_move_outside, feddurzai_move_blocks, feddurzai_step, feddurzai_step_call,
- * feddurzai_flow, feddurzai_flow_from, feddurzai_flow_unlisted, feddurzai_look, feddurzai_format and all
+ * feddurzai_flow, feddurzai_flow_from, feddurzai_flow_unlisted, feddurzai_look, feddurzai_format, feddurzai_format_code and all
  * feddurzai_detour functions call malloc, realloc and free, and free all that they allocate before they return. All
  * other functions allocate nothing and may be called from a signal handler or from a hook of malloc.
  *
@@ -44,7 +44,7 @@ extern "C" {
 /* ---- versions ---------------------------------------------------------------------------------------------- */
 
 /* The interface that this header declares. It rises when a struct, a number or a function changes. */
-#define FEDDURZAI_INTERFACE 9
+#define FEDDURZAI_INTERFACE 10
 
 /*
  * Returns the interface of the linked library. If it is not FEDDURZAI_INTERFACE, the library does not match this
@@ -65,8 +65,8 @@ uint32_t feddurzai_version(void);
  *
  * After a refusal the function has written nothing, with one exception: feddurzai_move, feddurzai_move_outside,
  * feddurzai_move_blocks, feddurzai_step, feddurzai_step_call, feddurzai_step_unlisted, feddurzai_detour,
- * feddurzai_detour_with, feddurzai_detour_endbr and feddurzai_detour_padding always write their report, unless they
- * return FEDDURZAI_NULL.
+ * feddurzai_detour_unlisted, feddurzai_detour_with, feddurzai_detour_endbr and feddurzai_detour_padding always write
+ * their report, unless they return FEDDURZAI_NULL.
  *
  * If several refusals apply, the function returns the first in the order of its comment. FEDDURZAI_NULL precedes all
  * others. Every function that takes a pointer can return it, so the comments do not repeat it.
@@ -476,7 +476,11 @@ enum {
     FEDDURZAI_RIP_DISTANCE = 1,         /* rip_operands: [rip+0x2ebd] */
     FEDDURZAI_SYMBOL_INSTEAD = 1,       /* symbol_place: in place of the number */
     FEDDURZAI_SYMBOL_COMMENT = 2,       /* at the end of the text, after # and the address */
-    FEDDURZAI_SYMBOL_GNU = 3            /* of a branch target behind the number, of memory at the end */
+    FEDDURZAI_SYMBOL_GNU = 3,           /* of a branch target behind the number, of memory at the end */
+    FEDDURZAI_GNU_NAMES = 1,            /* names: GNU's names, letters, prefixes and operands of string instructions */
+    FEDDURZAI_WRAPPED = 1,              /* distances: [rip+0xffffffffffffdb77] */
+    FEDDURZAI_BARE = 1,                 /* absolutes: fs:0x28 */
+    FEDDURZAI_NOTE_DISTANCES = 1        /* comments: also of a distance without a symbol */
 };
 
 /* How feddurzai_format writes a text. Set all bytes to 0, then the fields that matter. docs/texts.md describes each. */
@@ -489,11 +493,22 @@ typedef struct feddurzai_options {
     uint8_t operand_column;     /* the column of the first operand; at least one space precedes it */
     uint8_t rip_operands;
     uint8_t symbol_place;
+    uint8_t names;
+    uint8_t distances;
+    uint8_t absolutes;
+    uint8_t comments;
+    uint8_t comment_gap;        /* the spaces in front of a comment, 0 for 2 */
 } feddurzai_options;
 
-/* What objdump and GDB write: in FEDDURZAI_MASM as with -M intel, in FEDDURZAI_ATT as without. */
+/* What objdump and GDB write with -M intel, in FEDDURZAI_MASM. */
 #define FEDDURZAI_GNU_OPTIONS \
-    {FEDDURZAI_UPPER_KEYWORDS, FEDDURZAI_HEX_PREFIX, 0, FEDDURZAI_TIGHT, 0, 7, FEDDURZAI_RIP_DISTANCE, FEDDURZAI_SYMBOL_GNU}
+    {FEDDURZAI_UPPER_KEYWORDS, FEDDURZAI_HEX_PREFIX, 0, FEDDURZAI_TIGHT, 0, 7, FEDDURZAI_RIP_DISTANCE, FEDDURZAI_SYMBOL_GNU, \
+        FEDDURZAI_GNU_NAMES, FEDDURZAI_WRAPPED, FEDDURZAI_BARE, FEDDURZAI_NOTE_DISTANCES, 8}
+
+/* What they write without, in FEDDURZAI_ATT. */
+#define FEDDURZAI_GNU_ATT_OPTIONS \
+    {FEDDURZAI_UPPER_KEYWORDS, FEDDURZAI_HEX_PREFIX, 0, FEDDURZAI_TIGHT, 0, 7, FEDDURZAI_RIP_DISTANCE, FEDDURZAI_SYMBOL_GNU, \
+        FEDDURZAI_GNU_NAMES, 0, FEDDURZAI_BARE, FEDDURZAI_NOTE_DISTANCES, 8}
 
 /*
  * Writes the text of an instruction by options and with a symbol.
@@ -515,6 +530,23 @@ typedef struct feddurzai_options {
  */
 int32_t feddurzai_format(uint32_t bits, uint32_t syntax, const feddurzai_options *options, const feddurzai_instr *instr,
     uint64_t end, const char *name, size_t name_len, uint64_t offset, char *out, size_t room);
+
+/*
+ * Writes the text of an instruction as feddurzai_format does, with the bytes that it was read from.
+ *
+ *  - code, code_len: the bytes of the instruction. With FEDDURZAI_GNU_NAMES the text shows prefixes that have no effect,
+ *    as in data16 cs nop WORD PTR [rax+rax*1+0x0], and all prefixes in their order. With 0 bytes, or with the manual's
+ *    names, the text is that of feddurzai_format.
+ *  - the others, and what is returned: as in feddurzai_format.
+ *
+ *     feddurzai_decode(64, 0x1000, (const uint8_t *)"\x66\x90", 2, &instr);
+ *     len = feddurzai_format_code(64, FEDDURZAI_MASM, &gnu, (const uint8_t *)"\x66\x90", 2, &instr, 0x1002, "", 0, 0, text,
+ *         sizeof text);
+ *     // xchg   ax,ax
+ */
+int32_t feddurzai_format_code(uint32_t bits, uint32_t syntax, const feddurzai_options *options, const uint8_t *code,
+    size_t code_len, const feddurzai_instr *instr, uint64_t end, const char *name, size_t name_len, uint64_t offset,
+    char *out, size_t room);
 
 /*
  * Decodes an instruction and writes its text: feddurzai_decode and feddurzai_text in one call. It is faster than the
@@ -1530,6 +1562,24 @@ int32_t feddurzai_detour(uint32_t bits, uint64_t ip, const uint8_t *code, size_t
     uint32_t start, uint8_t *patch, size_t patch_room, uint8_t *trampoline, size_t trampoline_room,
     feddurzai_detour_report *report);
 
+/*
+ * Makes both parts of a hook as feddurzai_detour does, also where the opcode table leaves out some instructions of the
+ * function, as far as feddurzai_measure measures them. One that is taken is moved whole: its bytes, with the number at
+ * RIP set so that it refers to the same address, or to the moved instruction that began there. Control is followed
+ * through such instructions, and from XBEGIN also to its target, so code after them that enters the taken bytes is found
+ * (_ENTERED). An XBEGIN with a 16-bit distance outside 16-bit mode counts as no instruction in the part to be taken.
+ * Arguments, report and refusals are those of feddurzai_detour.
+ *
+ *     // vpxord zmm0, zmm0, [rip+0x10], which is 0x101a; ret
+ *     static const uint8_t evex[] = {0x62, 0xf1, 0x7d, 0x48, 0xef, 0x05, 0x10, 0x00, 0x00, 0x00, 0xc3};
+ *     said = feddurzai_detour_unlisted(64, 0x1000, evex, sizeof evex, 0x2000, 0x3000, FEDDURZAI_START_MOVED,
+ *         patch, sizeof patch, trampoline, sizeof trampoline, &report);
+ *     // said is 0. The trampoline is vpxord zmm0, zmm0, [rip-0x1ff0], which is 0x101a, and jmp 0x100a
+ */
+int32_t feddurzai_detour_unlisted(uint32_t bits, uint64_t ip, const uint8_t *code, size_t len, uint64_t to,
+    uint64_t place, uint32_t start, uint8_t *patch, size_t patch_room, uint8_t *trampoline, size_t trampoline_room,
+    feddurzai_detour_report *report);
+
 /* Whether control after the overwritten bytes may go back to the start of the function. */
 enum {
     FEDDURZAI_START_OPEN = 0,       /* it may */
@@ -1824,10 +1874,22 @@ static inline int32_t feddurzai_checked_pieces(uint32_t bits, uint32_t syntax, c
 static inline int32_t feddurzai_checked_format(uint32_t bits, uint32_t syntax, const feddurzai_options *options,
     const feddurzai_instr *instr, uint64_t end, const char *name, size_t name_len, uint64_t offset, char *out, size_t room)
 {
-    static const feddurzai_options none = {0, 0, 0, 0, 0, 0, 0, 0};
+    static const feddurzai_options none = {0, 0, 0, 0, 0, 0, 0, 0, 0, 0, 0, 0, 0};
     if (instr == NULL || feddurzai_is_null(name, name_len) || feddurzai_is_null(out, room))
         return FEDDURZAI_NULL;
     return feddurzai_format(bits, syntax, options == NULL ? &none : options, instr, end, name, name_len, offset, out, room);
+}
+
+/* options may be NULL: then all are 0 */
+static inline int32_t feddurzai_checked_format_code(uint32_t bits, uint32_t syntax, const feddurzai_options *options,
+    const uint8_t *code, size_t code_len, const feddurzai_instr *instr, uint64_t end, const char *name, size_t name_len,
+    uint64_t offset, char *out, size_t room)
+{
+    static const feddurzai_options none = {0, 0, 0, 0, 0, 0, 0, 0, 0, 0, 0, 0, 0};
+    if (feddurzai_is_null(code, code_len) || instr == NULL || feddurzai_is_null(name, name_len) || feddurzai_is_null(out, room))
+        return FEDDURZAI_NULL;
+    return feddurzai_format_code(bits, syntax, options == NULL ? &none : options, code, code_len, instr, end, name, name_len,
+        offset, out, room);
 }
 
 static inline int32_t feddurzai_checked_encode(uint32_t bits, uint64_t ip, const feddurzai_instr *instr, uint8_t *out,
@@ -2065,6 +2127,18 @@ static inline int32_t feddurzai_checked_detour(uint32_t bits, uint64_t ip, const
     return feddurzai_detour(bits, ip, code, len, to, place, start, patch, patch_room, trampoline, trampoline_room, report);
 }
 
+static inline int32_t feddurzai_checked_detour_unlisted(uint32_t bits, uint64_t ip, const uint8_t *code, size_t len,
+    uint64_t to, uint64_t place, uint32_t start, uint8_t *patch, size_t patch_room, uint8_t *trampoline,
+    size_t trampoline_room, feddurzai_detour_report *report)
+{
+    if (feddurzai_is_null(code, len) || feddurzai_is_null(patch, patch_room))
+        return FEDDURZAI_NULL;
+    if (feddurzai_is_null(trampoline, trampoline_room) || report == NULL)
+        return FEDDURZAI_NULL;
+    return feddurzai_detour_unlisted(bits, ip, code, len, to, place, start, patch, patch_room, trampoline,
+        trampoline_room, report);
+}
+
 static inline int32_t feddurzai_checked_look(uint32_t bits, uint64_t ip, const uint8_t *code, size_t len,
     const uint32_t *entries, size_t entry_count, uint64_t taken, const uint32_t *moved, size_t moved_count, uint32_t start,
     feddurzai_view *view)
@@ -2135,6 +2209,7 @@ static inline int32_t feddurzai_checked_detour_padding(uint32_t bits, uint64_t i
 #define feddurzai_text feddurzai_checked_text
 #define feddurzai_pieces feddurzai_checked_pieces
 #define feddurzai_format feddurzai_checked_format
+#define feddurzai_format_code feddurzai_checked_format_code
 #define feddurzai_encode feddurzai_checked_encode
 #define feddurzai_encoded_len feddurzai_checked_encoded_len
 #define feddurzai_assemble feddurzai_checked_assemble
@@ -2163,6 +2238,7 @@ static inline int32_t feddurzai_checked_detour_padding(uint32_t bits, uint64_t i
 #define feddurzai_flow_from feddurzai_checked_flow_from
 #define feddurzai_flow_unlisted feddurzai_checked_flow_unlisted
 #define feddurzai_detour feddurzai_checked_detour
+#define feddurzai_detour_unlisted feddurzai_checked_detour_unlisted
 #define feddurzai_look feddurzai_checked_look
 #define feddurzai_detour_with feddurzai_checked_detour_with
 #define feddurzai_detour_len feddurzai_checked_detour_len

@@ -136,6 +136,9 @@ tries_hooks() {
     say "$backend: $(cat "$work/hooks_sanitized.log") ($sanitizers)"
     hooked hook_forms_sanitized "$here/tests/hook_forms.c" -O1 $sanitized
     say "$backend: $(cat "$work/hook_forms_sanitized.log") ($sanitizers)"
+    gcc -std=gnu11 -O2 $warn -fno-builtin -I"$here" "$here/tests/hook_unlisted.c" "$out/libfeddurzai.a" -ldl -o "$out/hook_unlisted"
+    "$out/hook_unlisted" >"$work/hook_unlisted.log" 2>&1 || die_with "$work/hook_unlisted.log" "$backend: tests/hook_unlisted.c failed"
+    say "$backend: tests/hook_unlisted.c: $(tail -1 "$work/hook_unlisted.log")"
     if command -v g++ >/dev/null; then
         gcc -std=gnu11 -O2 $warn -I"$here" -I"$here/hook" -c "$here/hook/feddurzai_hook.c" -o "$out/feddurzai_hook.o"
         g++ -std=c++11 -O2 $warn -pthread -I"$here" -I"$here/hook" "$here/tests/hooks_cpp.cpp" "$out/feddurzai_hook.o" "$out/libfeddurzai.a" -ldl -o "$out/hooks_cpp"

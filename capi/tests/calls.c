@@ -672,8 +672,10 @@ static void check_options(void)
         {FEDDURZAI_MASM, FEDDURZAI_GNU_OPTIONS, "\x48\x89\x5c\x24\x10", 5, 0, "", "mov    QWORD PTR [rsp+0x10],rbx"},
         {FEDDURZAI_MASM, FEDDURZAI_GNU_OPTIONS, "\xe8\xfb\x0f\0\0", 5, 0, "puts@plt", "call   0x402000 <puts@plt>"},
         {FEDDURZAI_MASM, FEDDURZAI_GNU_OPTIONS, "\x48\x8d\x3d\xbd\x2e\0\0", 7, 4, "message",
-            "lea    rdi,[rip+0x2ebd]  # 403ec4 <message+0x4>"},
-        {FEDDURZAI_ATT, FEDDURZAI_GNU_OPTIONS, "\xc1\xe8\x1f", 3, 0, "", "shr    $0x1f,%eax"},
+            "lea    rdi,[rip+0x2ebd]        # 403ec4 <message+0x4>"},
+        {FEDDURZAI_MASM, FEDDURZAI_GNU_OPTIONS, "\x66\x2e\x0f\x1f\x84\0\0\0\0\0", 10, 0, "", "cs nop WORD PTR [rax+rax*1+0x0]"},
+        {FEDDURZAI_ATT, FEDDURZAI_GNU_ATT_OPTIONS, "\x48\x8b\x43\x10", 4, 0, "", "mov    0x10(%rbx),%rax"},
+        {FEDDURZAI_ATT, FEDDURZAI_GNU_ATT_OPTIONS, "\xc1\xe8\x1f", 3, 0, "", "shr    $0x1f,%eax"},
         {FEDDURZAI_INTEL, {0, 0, 0, 0, 0, 0, 0, FEDDURZAI_SYMBOL_INSTEAD}, "\xe8\xfb\x0f\0\0", 5, 1, "puts@plt", "call puts@plt+0x1"},
         {FEDDURZAI_INTEL, {FEDDURZAI_UPPER, 0, 0, 0, 0, 0, 0, 0}, "\x48\x89\x5c\x24\x10", 5, 0, "", "MOV QWORD [RSP+0x10], RBX"},
         {FEDDURZAI_INTEL, {0, FEDDURZAI_DECIMAL, FEDDURZAI_SIGNED, 0, 0, 0, 0, 0}, "\x83\xc0\x80", 3, 0, "", "add eax, -128"},
@@ -690,9 +692,19 @@ static void check_options(void)
                   text, sizeof text), (int)strlen(cases[n].want));
         CHECK(strcmp(text, cases[n].want), 0);
     }
+    {
+        /* GNU's names with the bytes */
+        static const feddurzai_options gnu = FEDDURZAI_GNU_OPTIONS;
+        const uint8_t *code = (const uint8_t *)"\x66\x66\x90";
+        CHECK(feddurzai_decode(64, 0x401000, code, 3, &i), 3);
+        CHECK(feddurzai_format_code(64, FEDDURZAI_MASM, &gnu, code, 3, &i, 0x401003, "", 0, 0, text, sizeof text), 17);
+        CHECK(strcmp(text, "data16 xchg ax,ax"), 0);
+        CHECK(feddurzai_format(64, FEDDURZAI_MASM, &gnu, &i, 0x401003, "", 0, 0, text, sizeof text), 3);
+        CHECK(strcmp(text, "nop"), 0);
+    }
     /* each number but the column has a last choice */
     for (field = 0; field < sizeof(feddurzai_options); field++) {
-        static const uint8_t last[] = {4, 3, 1, 1, 1, 255, 1, 3};
+        static const uint8_t last[] = {4, 3, 1, 1, 1, 255, 1, 3, 1, 1, 1, 1, 255};
         feddurzai_options options;
         memset(&options, 0, sizeof options);
         ((uint8_t *)&options)[field] = last[field];
@@ -1470,6 +1482,9 @@ static void check_detours(void)
     static const uint8_t ends[] = {0xc3, 0x90, 0x90, 0x90, 0x31, 0xc0, 0xc3};
     static const uint8_t bad[] = {0x90, 0x06, 0x90, 0x90, 0x90}, cut[] = {0x90, 0x48};
     static const uint8_t rip[] = {0x90, 0x48, 0x8b, 0x05, 0x10, 0x00, 0x00, 0x00, 0xc3};
+    static const uint8_t evex[] = {0x62, 0xf1, 0x7d, 0x48, 0xef, 0x05, 0x10, 0x00, 0x00, 0x00, 0xc3};
+    static const uint8_t evex_trampoline[] = {0x62, 0xf1, 0x7d, 0x48, 0xef, 0x05, 0x10, 0xe0, 0xff, 0xff, 0xe9, 0xfb, 0xdf, 0xff, 0xff};
+    static const uint8_t around[] = {0x48, 0x8b, 0x07, 0x48, 0x89, 0xc1, 0x62, 0xf1, 0x7c, 0x48, 0x28, 0xc1, 0xeb, 0xf5, 0xc3};
     const uint64_t far = 0x7fff00000000;
     uint8_t *patch = malloc(FEDDURZAI_MAX_PATCH), *out = malloc(64), *large = calloc(1, FEDDURZAI_MAX_CODE + 1);
     feddurzai_detour_report *r = malloc(sizeof *r);
@@ -1534,6 +1549,22 @@ static void check_detours(void)
     CHECK(DETOUR(64, loop, 0x2000, 0x3000, FEDDURZAI_START_HOOKED), 0);
     CHECK(r->jump_back, 9);
 #undef DETOUR
+    /* vpxord zmm0, zmm0, [rip+0x10]; ret: by the call that reads it */
+    CHECK(feddurzai_detour(64, 0x1000, evex, sizeof evex, 0x2000, 0x3000, 0, patch, FEDDURZAI_MAX_PATCH, out, 64, r), FEDDURZAI_INVALID);
+    CHECK(feddurzai_detour_unlisted(64, 0x1000, evex, sizeof evex, 0x2000, 0x3000, 0, patch, FEDDURZAI_MAX_PATCH, out, 14, r), FEDDURZAI_NO_ROOM);
+    CHECK(feddurzai_detour_unlisted(64, 0x1000, evex, sizeof evex, 0x2000, 0x3000, 0, patch, FEDDURZAI_MAX_PATCH, out, 64, r), 0);
+    CHECK(r->taken, 10);
+    CHECK(r->bytes, 15);
+    CHECK(r->jump_back, 10);
+    CHECK(r->form, FEDDURZAI_DETOUR_NEAR);
+    CHECK(memcmp(out, evex_trampoline, 15), 0);
+    /* mov rax, [rdi]; mov rcx, rax; vmovaps zmm0, zmm1; jmp to the second one */
+    CHECK(feddurzai_detour_unlisted(64, 0x1000, around, sizeof around, 0x2000, 0x3000, 0, patch, FEDDURZAI_MAX_PATCH, out, 64, r), FEDDURZAI_ENTERED);
+    CHECK(r->at, 12);
+    CHECK(r->target, 3);
+    CHECK(feddurzai_detour_unlisted(17, 0, NULL, 0, 0, 0, 9, NULL, 0, NULL, 0, r), FEDDURZAI_BAD_MODE);
+    CHECK(feddurzai_detour_unlisted(64, 0, NULL, 0, 0, 0, 9, NULL, 0, NULL, 0, r), FEDDURZAI_BAD_START);
+    CHECK(feddurzai_detour_unlisted(64, 0, large, FEDDURZAI_MAX_CODE + 1, 0, 0, 0, NULL, 0, NULL, 0, r), FEDDURZAI_TOO_LARGE);
     free(patch);
     free(out);
     free(large);

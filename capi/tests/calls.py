@@ -113,7 +113,7 @@ def shown_in_pieces():
 def shown_by_options():
     lea, call = f.decode(64, 0x401000, code("488d3dbd2e0000")), f.decode(64, 0x401000, code("e8fb0f0000"))
     check(lea.format(), str(lea))
-    check([item.format(f.GNU, syntax=f.Style.ATT) for item in (lea, call)], ["lea    0x2ebd(%rip),%rdi", "call   0x402000"])
+    check([item.format(f.GNU_ATT, syntax=f.Style.ATT) for item in (lea, call)], ["lea    0x2ebd(%rip),%rdi        # 403ec4", "call   0x402000"])
     names = {0x402000: "puts@plt", 0x403EC4: ("message", 4)}
     check(call.format(f.GNU, names, f.Style.MASM), "call   0x402000 <puts@plt>")
     check(call.format(symbols=names.get), "call 0x402000 <puts@plt>")
@@ -498,6 +498,12 @@ def hooks_are_made():
     loop = code("83ef03 7ffb 8d470a c3")
     check([f.detour(64, 0x1000, loop, 0x2000, 0x3000, start).trampoline.hex() for start in f.Start],
           ["83ef037ffbe9fbdfffff", "83ef030f8ff7dfffffe9f7dfffff"])
+    # vpxord zmm0, zmm0, [rip+0x10], which is 0x101a; ret
+    evex = code("62f17d48ef0510000000 c3")
+    refused(f.Reason.INVALID, f.detour, 64, 0x1000, evex, 0x2000, 0x3000, kind=f.InvalidCode)
+    check(f.detour(64, 0x1000, evex, 0x2000, 0x3000, unlisted=True).trampoline.hex(), "62f17d48ef0510e0ffff" + "e9fbdfffff")
+    for other in ({"entries": ()}, {"whole": True}, {"keep_endbr": True}, {"padding": b"\xcc"}):
+        raised(ValueError, f.detour, 64, 0x1000, evex, 0x2000, 0x3000, unlisted=True, **other)
     refused(f.Reason.BAD_START, f.detour, 64, 0x1000, loop, 0x2000, 0x3000, 2)
     refused(f.Reason.BAD_MODE, f.detour, 17, 0x1000, loop, 0x2000, 0x3000)
     refused(f.Reason.TOO_LARGE, f.detour, 64, 0, bytes(f.MAX_CODE + 1), 0, 0)

@@ -298,6 +298,16 @@ static void hooked(void)
     CHECK(report.bytes, 11);
     CHECK_BYTES(trampoline, "\x48\x83\xec\x18\x31\xc0\xe9\xfb\xdf\xff\xff");
     CHECK(report.jump_back, 6);
+
+    // vpxord zmm0, zmm0, [rip+0x10], which is 0x101a; ret
+    static const uint8_t evex[] = {0x62, 0xf1, 0x7d, 0x48, 0xef, 0x05, 0x10, 0x00, 0x00, 0x00, 0xc3};
+    said = feddurzai_detour_unlisted(64, 0x1000, evex, sizeof evex, 0x2000, 0x3000, FEDDURZAI_START_MOVED,
+        patch, sizeof patch, trampoline, sizeof trampoline, &report);
+    // said is 0. The trampoline is vpxord zmm0, zmm0, [rip-0x1ff0], which is 0x101a, and jmp 0x100a
+    CHECK(said, 0);
+    CHECK(report.taken, 10);
+    CHECK(report.bytes, 15);
+    CHECK_BYTES(trampoline, "\x62\xf1\x7d\x48\xef\x05\x10\xe0\xff\xff\xe9\xfb\xdf\xff\xff");
 }
 
 static void looked(void)

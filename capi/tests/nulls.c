@@ -133,6 +133,10 @@ static void check_nulls(void)
     CHECK(feddurzai_format(64, FEDDURZAI_INTEL, NULL, NULL, 0, NULL, 0, 0, text, sizeof text), FEDDURZAI_NULL);
     CHECK(feddurzai_format(64, FEDDURZAI_INTEL, NULL, &instr, 0, NULL, 1, 0, text, sizeof text), FEDDURZAI_NULL);
     CHECK(feddurzai_format(64, FEDDURZAI_INTEL, NULL, &instr, 0, "x", 1, 0, NULL, sizeof text), FEDDURZAI_NULL);
+    CHECK(feddurzai_format_code(64, FEDDURZAI_INTEL, NULL, NULL, 1, &instr, 0, NULL, 0, 0, text, sizeof text), FEDDURZAI_NULL);
+    CHECK(feddurzai_format_code(64, FEDDURZAI_INTEL, NULL, NULL, 0, NULL, 0, NULL, 0, 0, text, sizeof text), FEDDURZAI_NULL);
+    CHECK(feddurzai_format_code(64, FEDDURZAI_INTEL, NULL, NULL, 0, &instr, 0, NULL, 1, 0, text, sizeof text), FEDDURZAI_NULL);
+    CHECK(feddurzai_format_code(64, FEDDURZAI_INTEL, NULL, NULL, 0, &instr, 0, "x", 1, 0, NULL, sizeof text), FEDDURZAI_NULL);
 
     CHECK(feddurzai_encode(64, 0, NULL, out, sizeof out), FEDDURZAI_NULL);
     CHECK(feddurzai_encode(64, 0, &instr, NULL, sizeof out), FEDDURZAI_NULL);
@@ -214,6 +218,10 @@ static void check_nulls(void)
     CHECK(feddurzai_detour(64, 0, small, 7, 0x2000, 0x3000, 0, patch, 6, NULL, sizeof out, &detour), FEDDURZAI_NULL);
     CHECK(feddurzai_detour(64, 0, small, 7, 0x2000, 0x3000, 0, patch, 6, out, sizeof out, NULL), FEDDURZAI_NULL);
     CHECK(feddurzai_detour(64, 0, NULL, 0, 0, 0, 0, NULL, 0, NULL, 0, NULL), FEDDURZAI_NULL);
+    CHECK(feddurzai_detour_unlisted(64, 0, NULL, 7, 0x2000, 0x3000, 0, patch, 6, out, sizeof out, &detour), FEDDURZAI_NULL);
+    CHECK(feddurzai_detour_unlisted(64, 0, small, 7, 0x2000, 0x3000, 0, NULL, 6, out, sizeof out, &detour), FEDDURZAI_NULL);
+    CHECK(feddurzai_detour_unlisted(64, 0, small, 7, 0x2000, 0x3000, 0, patch, 6, NULL, sizeof out, &detour), FEDDURZAI_NULL);
+    CHECK(feddurzai_detour_unlisted(64, 0, small, 7, 0x2000, 0x3000, 0, patch, 6, out, sizeof out, NULL), FEDDURZAI_NULL);
 #define DETOUR(code, entries, patch, out, moved, hook) \
     feddurzai_detour_with(64, 0, code, 7, 0x2000, 0x3000, 0, 0, entries, 2, patch, 6, out, SPARE, moved, 2, hook)
     CHECK(DETOUR(NULL, firsts, patch, out, moved, &hook), FEDDURZAI_NULL);
@@ -387,6 +395,7 @@ static void check_zeros(void)
     CHECK(feddurzai_text(0, 0, &zeros, NULL, 0), FEDDURZAI_BAD_MODE);
     CHECK(feddurzai_pieces(0, 0, &zeros, NULL, 0, NULL, 0), FEDDURZAI_BAD_MODE);
     CHECK(feddurzai_format(0, 0, NULL, &zeros, 0, NULL, 0, 0, NULL, 0), FEDDURZAI_BAD_MODE);
+    CHECK(feddurzai_format_code(0, 0, NULL, NULL, 0, &zeros, 0, NULL, 0, 0, NULL, 0), FEDDURZAI_BAD_MODE);
     CHECK(feddurzai_encode(0, 0, &zeros, NULL, 0), FEDDURZAI_BAD_MODE);
     CHECK(feddurzai_encoded_len(0, 0, &zeros), FEDDURZAI_BAD_MODE);
     CHECK(feddurzai_assemble(0, 0, NULL, 0, NULL, 0), FEDDURZAI_BAD_MODE);
@@ -428,6 +437,7 @@ static void check_zeros(void)
     CHECK(feddurzai_step_len(0, 0, NULL, 0, 0), FEDDURZAI_BAD_MODE);
     CHECK(feddurzai_step_call(0, 0, NULL, 0, 0, NULL, 0, &step), FEDDURZAI_BAD_MODE);
     CHECK(step.bytes == 0 && step.back_at == 0 && step.address == 0 && step.len == 0 && step.done_at == 0, 1);
+    CHECK(feddurzai_detour_unlisted(0, 0, NULL, 0, 0, 0, 0, NULL, 0, NULL, 0, &detour), FEDDURZAI_BAD_MODE);
     CHECK(feddurzai_detour(0, 0, NULL, 0, 0, 0, 0, NULL, 0, NULL, 0, &detour), FEDDURZAI_BAD_MODE);
     CHECK(detour.taken == 0 && detour.bytes == 0 && detour.jump_back == 0 && detour.at == 0 && detour.target == 0, 1);
     CHECK(feddurzai_detour_with(0, 0, NULL, 0, 0, 0, 0, 0, NULL, 0, NULL, 0, NULL, 0, NULL, 0, &hook), FEDDURZAI_BAD_MODE);

@@ -190,6 +190,8 @@ static void works(void)
     CALL(feddurzai_detour, 64, 0x401000, P(code), SIZE, 0x7fff00000000, 0x500000, FEDDURZAI_START_MOVED, P(patch), sizeof patch,
         P(out), sizeof out, P(&detour));
     CALL(feddurzai_look, 64, 0x401000, P(code), SIZE, P(entries), 2, 8, P(entries), 1, FEDDURZAI_START_CLOSED, P(&view));
+    CALL(feddurzai_detour_unlisted, 64, 0x401000, P(code), SIZE, 0x7fff00000000, 0x500000, FEDDURZAI_START_MOVED, P(patch),
+        sizeof patch, P(out), sizeof out, P(&detour));
     CALL(feddurzai_detour_with, 64, 0x401000, P(code), SIZE, 0x7fff00000000, 0x500000, FEDDURZAI_START_MOVED, 0, P(entries), 2,
         P(patch), sizeof patch, P(out), sizeof out, P(begins), 16, P(&hook));
     CALL(feddurzai_detour_endbr, 64, 0x401000, P(code), SIZE, 0x7fff00000000, 0x500000, FEDDURZAI_START_MOVED, 0, P(entries), 2,

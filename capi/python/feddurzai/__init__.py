@@ -51,7 +51,7 @@ from ._calls import (
 from ._codes import Code
 from ._detours import Detour, MovedStart, detour, detour_len
 from ._effects import Effects, MemoryUse, RegisterUse
-from ._format import GNU, Options
+from ._format import GNU, GNU_ATT, Options
 from ._items import BadByte, Instr, Item, Rest
 from ._native import INTERFACE, MAX_CODE, MAX_FLOW, MAX_STEP
 from ._numbers import (
@@ -109,6 +109,7 @@ __all__ = [
     "Flow",
     "Form",
     "GNU",
+    "GNU_ATT",
     "INTERFACE",
     "Immediate",
     "Instr",

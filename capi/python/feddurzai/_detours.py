@@ -92,15 +92,16 @@ def _detour_of(patch: bytes, trampoline: bytes, report: DetourReport) -> Detour:
 _Function = Tuple[int, int, bytes, int, int, int, int]
 
 
-def _without_rules(function: _Function) -> Detour:
+def _without_rules(function: _Function, unlisted: bool) -> Detour:
     """The detour alone: a first call reports the sizes of the buffers for the second."""
+    call = _native.detour_unlisted if unlisted else _native.detour
     room = _ReportRoom()
-    said = _native.detour(*function, None, 0, None, 0, room)
+    said = call(*function, None, 0, None, 0, room)
     report = DetourReport(*_REPORT.unpack(room.raw))
     if said != Reason.NO_ROOM:
         raise refusal_of(said, report)
     patch, trampoline = _native.room_of(report.taken)(), _native.room_of(report.bytes)()
-    said = _native.detour(*function, patch, report.taken, trampoline, report.bytes, room)
+    said = call(*function, patch, report.taken, trampoline, report.bytes, room)
     if said < 0:
         raise refusal_of(said, DetourReport(*_REPORT.unpack(room.raw)))
     return _detour_of(patch.raw, trampoline.raw, report)
@@ -224,6 +225,7 @@ def detour(
     calls: bool = True,
     keep_endbr: bool = False,
     padding: Optional[Buffer] = None,
+    unlisted: bool = False,
 ) -> Detour:
     """Makes the patch and the trampoline that hook the function at address `ip`.
 
@@ -243,9 +245,14 @@ def detour(
     patch is for the byte behind it, and the trampoline begins with it too. `padding` are the bytes directly in front of a function that is too
     small for the jump: a short jump goes to a near jump over their last bytes. Both look at the function as the rules do; one of them can be asked for.
 
+    With `unlisted` also instructions that the opcode table leaves out are taken and followed, as far as `measure` measures them: one that is taken
+    is moved whole, with its number at RIP set so that it refers to the same address, or to the moved instruction that began there. It can be asked
+    for without entries, rules and other forms.
+
     Raises Refusal with a report and BAD_MODE, BAD_START, TOO_LARGE (more than MAX_CODE bytes), SMALL, ENDS, ENTERED, WRAPS, TOO_FAR or NO_MEMORY,
     and InvalidCode or TooShort if the bytes to be overwritten are not instructions. With `entries` or a rule also with OVERLAPS,
-    CALLS or UNSEEN, and with `padding` with PADDING. Raises ValueError with both `keep_endbr` and `padding`.
+    CALLS or UNSEEN, and with `padding` with PADDING. Raises ValueError with both `keep_endbr` and `padding`, or with `unlisted` and any of entries,
+    rules and other forms.
 
     >>> try:
     ...     detour(64, 0x1000, bytes.fromhex("31c0 ffc0 39f8 72fa c3"), 0x2000, 0x3000)
@@ -262,6 +269,13 @@ def detour(
     >>> made = detour(64, 0x1000, bytes.fromhex("f30f1efa 4883ec18 31c0 c3"), 0x2000, 0x3000, keep_endbr=True)
     >>> made.kept, made.patch.hex(), made.trampoline.hex()
     (4, 'e9f70f0000cc', 'f30f1efa4883ec1831c0e9fbdfffff')
+    >>> detour(64, 0x1000, bytes.fromhex("62f17d48ef0510000000 c3"), 0x2000, 0x3000, unlisted=True).trampoline.hex()
+    '62f17d48ef0510e0ffffe9fbdfffff'
+    >>> try:
+    ...     detour(64, 0x1000, bytes.fromhex("488b07 4889c1 62f17c4828c1 ebf5 c3"), 0x2000, 0x3000, unlisted=True)
+    ... except Refusal as refusal:
+    ...     print(refusal)
+    control may enter the bytes to be overwritten: from offset 12, to offset 3
     >>> made = detour(64, 0x1000, bytes.fromhex("89f8 c3"), 0x2000, 0x3000, padding=b"\\xcc" * 5)
     >>> made.jump.hex(), made.patch.hex()
     ('e900100000', 'ebf9')
@@ -272,6 +286,8 @@ def detour(
     start = _checks.number("start", start, _checks.U32)
     function = (bits, ip, code, len(code), to, place, start)
     rules = (_RULE_WHOLE if whole else 0) + (_RULE_RETURNS if returns else 0) + (0 if calls else _RULE_NO_CALLS)
+    if unlisted and (entries is not None or rules or keep_endbr or padding is not None):
+        raise ValueError("unlisted can be asked for without entries, rules and other forms")
     if keep_endbr and padding is not None:
         raise ValueError("keep_endbr and padding are two forms of a hook: ask for one")
     if keep_endbr:
@@ -279,5 +295,5 @@ def detour(
     if padding is not None:
         return _through_padding(function, _checks.code_bytes("padding", padding), () if entries is None else entries, rules)
     if entries is None and not rules:
-        return _without_rules(function)
+        return _without_rules(function, unlisted)
     return _by_rules(function, () if entries is None else entries, rules)

@@ -291,12 +291,12 @@ class Instr(Item):
 
         >>> lea = decode(64, 0x401000, bytes.fromhex("488d3dbd2e0000"))
         >>> lea.format(GNU, {0x403EC4: ("message", 4)}, Style.MASM)
-        'lea    rdi,[rip+0x2ebd]  # 403ec4 <message+0x4>'
+        'lea    rdi,[rip+0x2ebd]        # 403ec4 <message+0x4>'
         """
         shown = self._shown(syntax, bits, "format")
         if end is None:
             end = 0 if self.address is None else (self.address + len(self.bytes)) & (1 << 64) - 1
-        return formatted(shown, pieces_of(*shown), options, symbols, _checks.number("end", end))
+        return formatted(shown, self.bytes, pieces_of(*shown), options, symbols, _checks.number("end", end))
 
     def _shown(self, syntax: int, bits: Optional[int], call: str) -> Tuple[int, Bytes, int]:
         """The mode, the struct and the style for a text."""

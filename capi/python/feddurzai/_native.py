@@ -7,7 +7,7 @@ import os
 from typing import Any, Callable, List, Tuple, Type
 
 # the interface of the header for which this package is written
-INTERFACE = 9
+INTERFACE = 10
 
 MAX_LEN = 15
 MAX_JUMP = 16
@@ -108,7 +108,7 @@ line = _call(_short, "line", _u32, _u32, _u64, _at, _size, _at, _at, _size)
 text = _call(_short, "text", _u32, _u32, _at, _at, _size)
 bare_text = _bare(_short, "text")
 bare_pieces = _bare(_short, "pieces")
-format_ = _call(_short, "format", _u32, _u32, _at, _at, _u64, _at, _size, _u64, _at, _size)
+format_code = _call(_short, "format_code", _u32, _u32, _at, _at, _size, _at, _u64, _at, _size, _u64, _at, _size)
 encode = _call(_short, "encode", _u32, _u64, _at, _at, _size)
 encoded_len = _call(_short, "encoded_len", _u32, _u64, _at)
 assemble = _call(_short, "assemble", _u32, _u64, _at, _size, _at, _size)
@@ -136,6 +136,7 @@ look = _call(_long, "look", _u32, _u64, _at, _size, _at, _size, _u64, _at, _size
 step_call = _call(_short, "step_call", _u32, _u64, _at, _size, _u64, _at, _size, _at)
 step_unlisted = _call(_short, "step_unlisted", _u32, _u64, _at, _size, _u64, _at, _size, _at)
 detour = _call(_long, "detour", _u32, _u64, _at, _size, _u64, _u64, _u32, _at, _size, _at, _size, _at)
+detour_unlisted = _call(_long, "detour_unlisted", _u32, _u64, _at, _size, _u64, _u64, _u32, _at, _size, _at, _size, _at)
 detour_with = _call(
     *(_long, "detour_with", _u32, _u64, _at, _size, _u64, _u64, _u32, _u32, _at, _size),
     *(_at, _size, _at, _size, _at, _size, _at),

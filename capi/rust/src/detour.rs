@@ -206,11 +206,42 @@ impl Detour {
     /// [`Error::Ends`], [`Error::Entered`], [`Error::Wraps`], [`Error::TooFar`] or [`Error::NoMemory`].
     pub fn new(bitness: u32, ip: u64, code: &[u8], to: u64, place: u64, start: DetourStart) -> Result<Detour, Error> {
         let library = Library::get()?;
+        Detour::by(|patch, trampoline, report| {
+            library.detour(bitness, ip, code, to, place, start as u32, patch, trampoline, report)
+        })
+    }
+
+    /// Makes a hook as [`Detour::new`] does, also where the opcode table leaves out some instructions of the function, as far
+    /// as [`measure`](crate::measure) measures them. One that is overwritten is moved whole, with its number at RIP set so
+    /// that it refers to the same address, or to the moved instruction that began there. Control is followed through such
+    /// instructions, and from XBEGIN also to its target.
+    ///
+    /// ```
+    /// use feddurzai::{Detour, DetourStart};
+    ///
+    /// // vpxord zmm0, zmm0, [rip+0x10], which is 0x101a; ret
+    /// let code = b"\x62\xF1\x7D\x48\xEF\x05\x10\x00\x00\x00\xC3";
+    /// let hook = Detour::unlisted(64, 0x1000, code, 0x2000, 0x3000, DetourStart::Moved)?;
+    /// // vpxord zmm0, zmm0, [rip-0x1ff0]; jmp 0x100a
+    /// assert_eq!(hook.trampoline(), b"\x62\xF1\x7D\x48\xEF\x05\x10\xE0\xFF\xFF\xE9\xFB\xDF\xFF\xFF");
+    /// # Ok::<(), feddurzai::Error>(())
+    /// ```
+    ///
+    /// # Errors
+    ///
+    /// Those of [`Detour::new`].
+    pub fn unlisted(bitness: u32, ip: u64, code: &[u8], to: u64, place: u64, start: DetourStart) -> Result<Detour, Error> {
+        let library = Library::get()?;
+        Detour::by(|patch, trampoline, report| {
+            library.detour_unlisted(bitness, ip, code, to, place, start as u32, patch, trampoline, report)
+        })
+    }
+
+    /// The hook that a call writes: a first one reports the size of the trampoline for the second.
+    fn by(call: impl Fn(&mut [u8], &mut [u8], &mut sys::DetourReport) -> i32) -> Result<Detour, Error> {
         let (mut patch, mut trampoline) = (vec![0; MAX_PATCH], Vec::new());
         let mut report = sys::DetourReport::default();
-        let mut call = |trampoline: &mut [u8], report: &mut sys::DetourReport| {
-            library.detour(bitness, ip, code, to, place, start as u32, &mut patch, trampoline, report)
-        };
+        let mut call = |trampoline: &mut [u8], report: &mut sys::DetourReport| call(&mut patch, trampoline, report);
         let mut status = call(&mut trampoline, &mut report);
         if status == -6 {
             trampoline = vec![0; size_of(report.bytes)?];

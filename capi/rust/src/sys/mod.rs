@@ -248,6 +248,20 @@ extern "C" {
         trampoline_room: usize,
         report: *mut DetourReport,
     ) -> i32;
+    fn feddurzai_detour_unlisted(
+        bits: u32,
+        ip: u64,
+        code: *const u8,
+        len: usize,
+        to: u64,
+        place: u64,
+        start: u32,
+        patch: *mut u8,
+        patch_room: usize,
+        trampoline: *mut u8,
+        trampoline_room: usize,
+        report: *mut DetourReport,
+    ) -> i32;
     fn feddurzai_detour_with(
         bits: u32,
         ip: u64,
@@ -886,6 +900,37 @@ impl Library {
         // that is written overlaps another.
         unsafe {
             feddurzai_detour(
+                bits,
+                ip,
+                code.as_ptr(),
+                code.len(),
+                to,
+                place,
+                start,
+                patch.as_mut_ptr(),
+                patch.len(),
+                trampoline.as_mut_ptr(),
+                trampoline.len(),
+                report,
+            )
+        }
+    }
+
+    pub fn detour_unlisted(
+        self,
+        bits: u32,
+        ip: u64,
+        code: &[u8],
+        to: u64,
+        place: u64,
+        start: u32,
+        patch: &mut [u8],
+        trampoline: &mut [u8],
+        report: &mut DetourReport,
+    ) -> i32 {
+        // SAFETY: as for `detour`.
+        unsafe {
+            feddurzai_detour_unlisted(
                 bits,
                 ip,
                 code.as_ptr(),
