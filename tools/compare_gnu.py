@@ -3,8 +3,8 @@
 
 Usage: tools/compare_gnu.py FILE [COUNT]
 
-The shared library is the one that the Python package loads (FEDDURZAI_LIBRARY, or capi/out). At most COUNT instructions are compared, all by default. Comments
-behind `#` and symbols in angle brackets are left out on both sides, and objdump's bare targets get their `0x`. Instructions without a row, and those that objdump
+The shared library is the one that the Python package loads (FEDDURZAI_LIBRARY, or capi/out). At most COUNT instructions are compared, all by default. Symbols
+in angle brackets are left out, and objdump's bare targets get their `0x`. Instructions without a row, and those that objdump
 reads with another length, are not compared. For each syntax the share of equal texts is printed, then the differences by kind with an example of each.
 Required: objdump.
 """
@@ -23,15 +23,13 @@ HEAD = re.compile(r"^\S+:\s+file format elf(\d+)-", re.M)
 
 
 def lines_of(path, syntax):
-    """The address and the text of each instruction that objdump prints, without comments and symbols."""
+    """The address and the text of each instruction that objdump prints, without symbols."""
     words = ["objdump", "-d", "-w", "-j", ".text", "--no-show-raw-insn", "-M", syntax, path]
     with subprocess.Popen(words, stdout=subprocess.PIPE, env={**os.environ, "LC_ALL": "C"}, text=True) as ran:
         for line in ran.stdout:
             found = LINE.match(line)
             if found:
-                text = re.sub(r" *(#.*|<.*>)$", "", found[2].rstrip())
-                text = re.sub(r" +(#.*|<.*>)$", "", text).rstrip()
-                yield int(found[1], 16), text
+                yield int(found[1], 16), re.sub(r" +<[^#]*>( *#|$)", r"\1", found[2].rstrip()).rstrip()
 
 
 def text_section(path):
@@ -53,7 +51,7 @@ def kind_of(ours, theirs):
     return f"{blank[0]} for {blank[1]}"
 
 
-def compare(path, syntax, style, most):
+def compare(path, syntax, style, options, most):
     """Prints the share of equal texts in a syntax, and the kinds of the others."""
     bits, start, code = text_section(path)
     kinds, examples, count, equal = collections.Counter(), {}, 0, 0
@@ -71,7 +69,7 @@ def compare(path, syntax, style, most):
             continue
         if item.info().target is not None:
             text = re.sub(r" ([0-9a-f]+)$", r" 0x\1", text)
-        ours = item.format(feddurzai.GNU, syntax=style)
+        ours = item.format(options, syntax=style)
         count += 1
         if ours == text:
             equal += 1
@@ -92,8 +90,8 @@ def main(words):
         print(__doc__.strip())
         return 0 if words and words[0] in ("-h", "--help") else 2
     most = int(words[1]) if len(words) == 2 else -1
-    for syntax, style in (("intel", feddurzai.Style.MASM), ("att", feddurzai.Style.ATT)):
-        compare(words[0], syntax, style, most)
+    for syntax, style, options in (("intel", feddurzai.Style.MASM, feddurzai.GNU), ("att", feddurzai.Style.ATT, feddurzai.GNU_ATT)):
+        compare(words[0], syntax, style, options, most)
     return 0
 
 

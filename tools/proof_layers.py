@@ -17,8 +17,8 @@ ROOT = Path(__file__).resolve().parent.parent
 
 # their proofs use only definitions and the public contracts of the crates below
 BY_CONTRACTS = [
-    "branch_sizes", "move_goals", "block_encoder", "code_assembler", "code_items", "code_region", "step_slots", "flow_graph", "detour", "byte_ports",
-    "sweep", "command_words", "moving_run", "listing_run", "listing_program",
+    "branch_sizes", "move_goals", "block_encoder", "code_assembler", "assembly_text", "code_items", "code_region", "step_slots", "flow_graph", "detour", "byte_ports",
+    "sweep", "moving_run", "listing_run", "listing_program",
 ]
 
 IN_PROOF = re.compile(r"\bRattle\.([a-z_0-9]+)\.proofs\.([A-Za-z_0-9.]+?)(?:\.\{([^}]*)\}| as \S+)?\s*$")

@@ -5,7 +5,7 @@ import os
 import sys
 
 sys.dont_write_bytecode = True
-from tables import bare, branches, columns, effects, name_buckets, nodes, operand_sets, row_files  # noqa: E402
+from tables import bare, branches, columns, effects, gnu, name_buckets, nodes, operand_sets, row_files  # noqa: E402
 from tables.entries import BadEntry, read_all  # noqa: E402
 from tables.rows import table_of  # noqa: E402
 
@@ -23,6 +23,7 @@ The entries are read once (docs/entries.md describes a line) and expanded to the
   branches  crates/move_goals/src/branch_forms/generated_codes.rt, crates/block_encoder/src/pushed_calls/generated_codes.rt,
             crates/code_assembler/src/generated_codes.rt
   effects   crates/instruction_info/src/generated_effects.rt, from the lines in crates/row_entries/data too (docs/instruction-info.md)
+  gnu       crates/text_options/src/generated_gnu.rt (docs/texts.md)
 
 No proof depends on this program: the crates prove the contracts and laws of what it writes, and row_entries compares the entries with the rows.
 The exit status is 0 if all files agree with the entries, 1 if with --check a file differs (each is named), and 2 if a line is not an entry.
@@ -42,7 +43,7 @@ def main():
     check = parser.parse_args().check
     try:
         table = table_of(read_all())
-        files = {path: text for stage in (row_files, columns, nodes, bare, name_buckets, operand_sets, branches, effects) for path, text in stage.files(table).items()}
+        files = {path: text for stage in (row_files, columns, nodes, bare, name_buckets, operand_sets, branches, effects, gnu) for path, text in stage.files(table).items()}
     except BadEntry as bad:
         print(bad, file=sys.stderr)
         return 2
