@@ -64,6 +64,7 @@ line "decode" "$read" "$lines"
 print=$(second_pass "$folder/decode_speed" print "$bits")
 line "Intel text, on top" $((print - read)) "$lines"
 line "its pieces, on top of a text" $(($(second_pass "$folder/decode_speed" pieces "$bits") - print)) "$lines"
+line "text_with, on top of a text" $(($(second_pass "$folder/decode_speed" format "$bits") - print)) "$lines"
 line "encode, on top of decode" $(($(second_pass "$folder/decode_speed" encode "$bits") - read)) "$lines"
 line "a line of list intel" "$(whole "$part" list "$bits" 0 intel)" "$lines"
 line "a line of list att" "$(whole "$part" list "$bits" 0 att)" "$lines"

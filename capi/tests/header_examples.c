@@ -118,6 +118,12 @@ static void by_options(void)
     // call   0x2000 <puts@plt>
     CHECK(len, 24);
     CHECK_TEXT("call   0x2000 <puts@plt>");
+    feddurzai_decode(64, 0x1000, (const uint8_t *)"\x66\x90", 2, &instr);
+    len = feddurzai_format_code(64, FEDDURZAI_MASM, &gnu, (const uint8_t *)"\x66\x90", 2, &instr, 0x1002, "", 0, 0, text,
+        sizeof text);
+    // xchg   ax,ax
+    CHECK(len, 12);
+    CHECK_TEXT("xchg   ax,ax");
 }
 
 static void decoded_many(void)

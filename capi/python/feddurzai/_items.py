@@ -276,6 +276,17 @@ class Instr(Item):
         """
         return pieces_of(*self._shown(syntax, bits, "pieces"))
 
+    def operand_text(self, operand: int, syntax: int = Style.INTEL, bits: Optional[int] = None) -> str:
+        """The text of one operand, 0 to 3 in the manual's order in every style: its pieces joined. Raises IndexError if there is no such operand.
+
+        >>> decode(64, 0, bytes.fromhex("48895c2410")).operand_text(0)
+        'qword [rsp+0x10]'
+        """
+        found = [piece.text for piece in self.pieces(syntax, bits) if piece.operand == operand]
+        if not found:
+            raise IndexError(f"the instruction has no operand {operand}")
+        return "".join(found)
+
     def format(
         self,
         options: Options = DEFAULTS,

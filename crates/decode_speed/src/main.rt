@@ -3,7 +3,8 @@
 //!     decode_speed WORK BITS PASSES
 //!     decode_speed count BITS
 //!
-//! WORK is `read`; `print` to make the Intel text of each instruction too; `pieces` to make that text with its pieces; `encode` to encode each at
+//! WORK is `read`; `print` to make the Intel text of each instruction too; `pieces` to make that text with its pieces; `format` to make it by
+//! the default options and without symbols; `encode` to encode each at
 //! its own address; or `check` to encode each and read it again. Passes are repeated until two seconds of processor time have gone by, or PASSES
 //! times where that number is above 0. `check` prints a second line: how many are shorter, as long, longer or refused, and how many are not read
 //! as the same instruction.
@@ -43,6 +44,7 @@ fn wanted_of(word: &str) -> Wanted {
         "count" => Wanted::Counts,
         "print" => Wanted::Time(Work::Print),
         "pieces" => Wanted::Time(Work::Pieces),
+        "format" => Wanted::Time(Work::Format),
         "encode" => Wanted::Time(Work::Encode),
         "check" => Wanted::Time(Work::Check),
         _ => Wanted::Time(Work::Read),
@@ -55,6 +57,7 @@ fn name_of(work: Work) -> &'static str {
         Work::Read => "feddurzai",
         Work::Print => "feddurzai, Intel text",
         Work::Pieces => "feddurzai, pieces",
+        Work::Format => "feddurzai, by options",
         Work::Encode => "feddurzai, encoded",
         Work::Check => "feddurzai, read again",
     }
@@ -72,7 +75,7 @@ fn tell_spellings(rt: &HostRuntime, spellings: &Spellings) -> io::Result<()> {
 /// What a pass of a work counts beside instructions and errors.
 fn tell_result(rt: &HostRuntime, work: Work, counts: &Counts) -> io::Result<()> {
     match work {
-        Work::Read | Work::Pieces => Ok(()),
+        Work::Read | Work::Pieces | Work::Format => Ok(()),
         Work::Print => println!(rt; "text {} bytes", counts.text),
         Work::Encode | Work::Check => tell_spellings(rt, &counts.spellings),
     }
@@ -81,7 +84,7 @@ fn tell_result(rt: &HostRuntime, work: Work, counts: &Counts) -> io::Result<()> 
 /// Makes one pass of each work.
 fn tell_counts(rt: &HostRuntime, bits: Bits, bytes: &[u8]) -> io::Result<()> {
     for work in [Work::Read, Work::Print, Work::Encode, Work::Check] {
-        let counts = pass(bytes, bits, work);
+        let counts = pass(rt.alloc(), bytes, bits, work);
         let (name, items, errors) = (name_of(work), counts.items, counts.errors);
         println!(rt;
             "{name}: {} bytes {items} items {errors} errors",
@@ -103,7 +106,7 @@ fn tell_time(
     let name = name_of(work);
     let start = rt.process_cpu_time()?;
     for passes in 1..u64::MAX {
-        let counts = pass(bytes, bits, work);
+        let counts = pass(rt.alloc(), bytes, bits, work);
         let used = rt.process_cpu_time()?.saturating_sub(start);
         let done = if wanted > 0 {
             passes >= wanted

@@ -8,8 +8,12 @@ use arrayvec::ArrayVec;
 use decoder::{UNREAD, decode, decode_onto};
 use encoder::encode;
 use intel_text::print_to;
+use std::alloc::Global;
 use text_parts::style::Style;
 use text_pieces::piece::Printed;
+use text_options::options::Options;
+use text_options::symbols::NoSymbols;
+use text_options::text_with;
 use text_pieces::print_pieces;
 use x86_values::{Bits, Decoded, Instr, same};
 
@@ -22,6 +26,8 @@ pub enum Work {
     Print,
     /// Its text in the Intel style is made with its pieces.
     Pieces,
+    /// Its text in the Intel style is made by the default options, with a resolver that knows no symbol.
+    Format,
     /// It is encoded at its own address.
     Encode,
     /// It is encoded at its own address, and those bytes are read.
@@ -129,13 +135,26 @@ fn print(page: &mut Page, bits: Bits, instr: &Instr) -> usize
     page.len().wrapping_sub(before)
 }
 
+/// Makes the text of an instruction by the default options, and returns its length.
+fn format(line: &mut Vec<u8>, bits: Bits, instr: &Instr, end: u64) -> usize
+    requires { IsTrue (is_well_formed instr.now) }
+{
+    line.clear();
+    let options = Options::default();
+    match text_with(line, Style::Intel, &options, bits, instr, end, &NoSymbols) {
+        Ok(()) => line.len(),
+        Err(_) => 0,
+    }
+}
+
 /// Makes one pass. An instruction takes its bytes, and a byte that starts none takes one.
-fn sweep<const BITS: u32>(bytes: &[u8], bits: Bits, work: Work) -> Counts
+fn sweep<const BITS: u32>(alloc: Global, bytes: &[u8], bits: Bits, work: Work) -> Counts
     requires { IsTrue (is_mode BITS) }
 {
     let mut counts = NOTHING;
     let mut page = Page::new();
     let mut printed = Printed::default();
+    let mut line = Vec::new(alloc);
     let mut decoded = UNREAD;
     let mut rest = bytes;
     let mut ip = 0_u64;
@@ -157,6 +176,11 @@ fn sweep<const BITS: u32>(bytes: &[u8], bits: Bits, work: Work) -> Counts
                         print_pieces(&mut printed, Style::Intel, bits, &decoded.instr);
                         counts.text = counts.text.wrapping_add(printed.pieces.as_slice().len() as u64);
                     }
+                    Work::Format => {
+                        let end = ip.wrapping_add(u64::from(decoded.len));
+                        let len = format(&mut line, bits, &decoded.instr, end);
+                        counts.text = counts.text.wrapping_add(len as u64);
+                    }
                     Work::Encode => {
                         write::<BITS>(&mut counts.spellings, bits, ip, &decoded, false)
                     }
@@ -176,10 +200,10 @@ fn sweep<const BITS: u32>(bytes: &[u8], bits: Bits, work: Work) -> Counts
 }
 
 /// One pass over code of a mode, whose first byte has the address 0.
-pub fn pass(bytes: &[u8], bits: Bits, work: Work) -> Counts {
+pub fn pass(alloc: Global, bytes: &[u8], bits: Bits, work: Work) -> Counts {
     match bits {
-        Bits::B16 => sweep::<16>(bytes, bits, work),
-        Bits::B32 => sweep::<32>(bytes, bits, work),
-        Bits::B64 => sweep::<64>(bytes, bits, work),
+        Bits::B16 => sweep::<16>(alloc, bytes, bits, work),
+        Bits::B32 => sweep::<32>(alloc, bytes, bits, work),
+        Bits::B64 => sweep::<64>(alloc, bytes, bits, work),
     }
 }

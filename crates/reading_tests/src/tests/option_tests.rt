@@ -2,8 +2,9 @@
 
 ghost use Rattle.std.specs.Prelude.{◌==◌, if◌then◌else◌, codes, Some, None};
 
-use crate::tests::compare::same_text;
+use crate::tests::compare::{same_text, same_value};
 use crate::tests::read_bytes::read;
+use intel_reader::read_intel;
 use std::alloc::Global;
 use std::str::from_utf8;
 use std::test::Fail;
@@ -13,7 +14,7 @@ use text_options::options::{
 use text_options::symbols::{Symbol, Symbols};
 use text_options::text_of_code;
 use text_parts::style::Style;
-use x86_values::Bits;
+use x86_values::{Bits, same};
 
 /// The style, the words of the options, the bytes of an instruction of 64-bit mode at 0x401000, and its text. The lines with `gnu` have the text that GNU
 /// objdump 2.40 prints with `-M intel` in the style `masm`, and with no option in `att`.
@@ -101,6 +102,33 @@ intel | column | c3 | ret
 intel | column | 48895c2410 | mov    qword [rsp+0x10], rbx
 "#;
 
+/// The words of options, the bytes of an instruction of 64-bit mode at 0x401000, and whether `asm` reads the Intel text back as this instruction.
+const READ_BACK: &str = r#"
+ | f0658305fe0f0000ff | yes
+ | 48895c2410 | yes
+ | eb0e | yes
+prefixed | 83c00a | yes
+prefixed | f0658305fe0f0000ff | yes
+# a symbol
+ | e8fb0f0000 | no
+instead | e8fb0f0000 | no
+comment | 488d3dbd2e0000 | no
+# other numbers
+suffixed | 83c00a | no
+decimal | 83c00a | no
+signed | 83c0ff | no
+signed | 83c07f | yes
+distance | 488d3d43d1ffff | no
+# letters, sizes, commas and columns
+names | 48895c2410 | no
+registers | 48895c2410 | no
+upper | 48895c2410 | no
+needed | 48895c2410 | no
+tight | 48895c2410 | no
+column | 48895c2410 | no
+gnu | 48895c2410 | no
+"#;
+
 /// A resolver that knows two addresses.
 struct Known;
 
@@ -186,6 +214,25 @@ fn text_of(alloc: Global, style: Style, options: &Options, digits: &str) -> Resu
     Ok(text)
 }
 
+/// Whether the Intel text by options is read as the instruction.
+fn is_read_back(alloc: Global, options: &Options, digits: &str) -> Result<bool, Fail> {
+    let text = text_of(alloc, Style::Intel, options, digits)?;
+    let decoded = read(alloc, Bits::B64, 0x40_1000, digits)?;
+    match read_intel(Bits::B64, 0x40_1000, &text) {
+        Ok(instr) => Ok(same(&instr, &decoded.instr)),
+        Err(_) => Ok(false),
+    }
+}
+
+/// The words of the options, the digits and the last word of a line.
+fn read_parts_of(line: &str) -> Result<(&str, &str, bool), Fail> {
+    let mut words = line.split(" | ");
+    match (words.next(), words.next(), words.next()) {
+        (Some(options), Some(digits), Some(word)) => Ok((options, digits, word == "yes")),
+        _ => Err(Fail::new("a line has no last word")),
+    }
+}
+
 /// The style, the words of the options, the digits and the text of a line.
 fn parts_of(line: &str) -> Result<(&str, &str, &str, &str), Fail> {
     let mut words = line.split(" | ");
@@ -204,6 +251,18 @@ fn texts_are_by_options(rt: HostRuntime) -> Result<(), Fail> {
             let (style, options, digits, want) = parts_of(line)?;
             let text = text_of(rt.alloc(), style_of(style)?, &options_of(options)?, digits)?;
             same_text(&rt, from_utf8(&text)?, want, line);
+        }
+    }
+    Ok(())
+}
+
+#[test]
+fn texts_are_read_back_by_options(rt: HostRuntime) -> Result<(), Fail> {
+    for line in READ_BACK.lines() {
+        if !line.is_empty() && !line.starts_with('#') {
+            let (options, digits, want) = read_parts_of(line)?;
+            let found = is_read_back(rt.alloc(), &options_of(options)?, digits)?;
+            same_value(&rt, &found, &want, line);
         }
     }
     Ok(())
