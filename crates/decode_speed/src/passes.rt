@@ -9,11 +9,11 @@ use decoder::{UNREAD, decode, decode_onto};
 use encoder::encode;
 use intel_text::print_to;
 use std::alloc::Global;
-use text_parts::style::Style;
-use text_pieces::piece::Printed;
 use text_options::options::Options;
 use text_options::symbols::NoSymbols;
 use text_options::text_with;
+use text_parts::style::Style;
+use text_pieces::piece::Printed;
 use text_pieces::print_pieces;
 use x86_values::{Bits, Decoded, Instr, same};
 
@@ -174,7 +174,9 @@ fn sweep<const BITS: u32>(alloc: Global, bytes: &[u8], bits: Bits, work: Work) -
                     }
                     Work::Pieces => {
                         print_pieces(&mut printed, Style::Intel, bits, &decoded.instr);
-                        counts.text = counts.text.wrapping_add(printed.pieces.as_slice().len() as u64);
+                        counts.text = counts
+                            .text
+                            .wrapping_add(printed.pieces.as_slice().len() as u64);
                     }
                     Work::Format => {
                         let end = ip.wrapping_add(u64::from(decoded.len));

@@ -6,7 +6,8 @@ use feddurzai::decoding::{Decoder, Items, decode_in, read_items};
 use feddurzai::encoding::{encode, encoded_len};
 use feddurzai::flow::graph_of_code;
 use feddurzai::format::{
-    Intel, NoSymbols, Options, Printed, RipOperands, Style, ascii_str, pieces, print_att, print_pieces, text_with,
+    Intel, NoSymbols, Options, Printed, RipOperands, Style, ascii_str, pieces, print_att,
+    print_pieces, text_with,
 };
 use feddurzai::hooks::{
     HookRules, Hooks, StartRule, StartTarget, detour, detour_keeping_endbr, detour_len,

@@ -18,6 +18,6 @@ mod region;
 mod rows;
 mod stepping;
 mod texts;
-mod unlisted;
+mod unlisted_hooks;
 mod version;
 mod writing;

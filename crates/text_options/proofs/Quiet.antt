@@ -333,10 +333,12 @@ bracket-unasked : (names : Answers) (style : Style) (bits : Bits) (row : Row) (n
     → AreUnasked names (bracket_pieces style bits row name i)
 unfolding bracket_pieces
 bracket-unasked names style bits row name i q =
-    unasked-append names (prefix_pieces bits row name i) _ (prefix-unasked names bits row name i)
-    (tt, unasked-append names (part_pieces style bits row i 0) _ (part-unasked names style bits row i 0 q.first)
-    (unasked-append names (part_pieces style bits row i 1) _ (part-unasked names style bits row i 1 q.second)
-    (unasked-append names (part_pieces style bits row i 2) _ (part-unasked names style bits row i 2 q.third) (part-unasked names style bits row i 3 q.fourth))))
+    unasked-append names (prefix_pieces bits row name i) _ (prefix-unasked names bits row name i) (
+      tt,
+      unasked-append names (part_pieces style bits row i 0) _ (part-unasked names style bits row i 0 q.first)
+          (unasked-append names (part_pieces style bits row i 1) _ (part-unasked names style bits row i 1 q.second)
+          (unasked-append names (part_pieces style bits row i 2) _ (part-unasked names style bits row i 2 q.third) (part-unasked names style bits row i 3 q.fourth))),
+    )
 
 -- ---- operands in AT&T
 
@@ -351,9 +353,11 @@ att_index-unasked names asize n m = att_index-by names asize n m m.index
 
 att_registers-unasked : (names : Answers) (asize : Bits) (n : ℕ) (m : Mem) → AreUnasked names (att_register_pieces asize n m)
 unfolding att_register_pieces
-att_registers-unasked names asize n m =
-    (tt, unasked-append names (base_pieces Att n m.base) _ (base-unasked names Att n m.base)
-    (unasked-append names (att_index_pieces asize n m) _ (att_index-unasked names asize n m) (tt, tt)))
+att_registers-unasked names asize n m = (
+  tt,
+  unasked-append names (base_pieces Att n m.base) _ (base-unasked names Att n m.base)
+      (unasked-append names (att_index_pieces asize n m) _ (att_index-unasked names asize n m) (tt, tt)),
+)
 
 att_relative-unasked : (names : Answers) (asize : Bits) (n : ℕ) (m : Mem) → names m.disp ≡ None → AreUnasked names (att_relative_pieces asize n m)
 unfolding att_relative_pieces
@@ -395,10 +399,12 @@ att_part-unasked names bits row name i n h =
 att-unasked : (names : Answers) (bits : Bits) (row : Row) (name : List ℕ) (i : Instr) → AreQuiet names i → AreUnasked names (att_pieces bits row name i)
 unfolding att_pieces
 att-unasked names bits row name i q =
-    unasked-append names (prefix_pieces bits row name i) _ (prefix-unasked names bits row name i)
-    (tt, unasked-append names (att_part_pieces bits row name i 3) _ (att_part-unasked names bits row name i 3 q.fourth)
-    (unasked-append names (att_part_pieces bits row name i 2) _ (att_part-unasked names bits row name i 2 q.third)
-    (unasked-append names (att_part_pieces bits row name i 1) _ (att_part-unasked names bits row name i 1 q.second) (att_part-unasked names bits row name i 0 q.first))))
+    unasked-append names (prefix_pieces bits row name i) _ (prefix-unasked names bits row name i) (
+      tt,
+      unasked-append names (att_part_pieces bits row name i 3) _ (att_part-unasked names bits row name i 3 q.fourth)
+          (unasked-append names (att_part_pieces bits row name i 2) _ (att_part-unasked names bits row name i 2 q.third)
+          (unasked-append names (att_part_pieces bits row name i 1) _ (att_part-unasked names bits row name i 1 q.second) (att_part-unasked names bits row name i 0 q.first))),
+    )
 
 -- ---- the whole text
 

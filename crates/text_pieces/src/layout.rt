@@ -117,7 +117,15 @@ pub fn put_separator(line: &mut Printed, first: bool, op: &Operand)
 /// Puts down a memory operand with its size in front of it.
 #[inline(never)]
 #[tactic(auto, using(crate::proofs::Grown::grown_rules))]
-fn put_memory(line: &mut Printed, style: Style, bits: Bits, row: &Row, instr: &Instr, n: u8, m: &Mem)
+fn put_memory(
+    line: &mut Printed,
+    style: Style,
+    bits: Bits,
+    row: &Row,
+    instr: &Instr,
+    n: u8,
+    m: &Mem,
+)
     requires number { n < 4 }
     requires sound { IsTrue (sound row.now) }
     requires room { length line.old.pieces.items + 15 ≤ PIECES }
@@ -209,7 +217,14 @@ fn put_part(line: &mut Printed, style: Style, bits: Bits, row: &Row, instr: &Ins
 
 /// Puts down the pieces of an instruction of a row with this name, in a style with brackets.
 #[tactic(auto, unfolding(crate::specs::Layout::bracket_pieces), using(crate::proofs::Grown::grown_rules))]
-pub fn put_layout(line: &mut Printed, style: Style, bits: Bits, row: &Row, name: &[u8], instr: &Instr)
+pub fn put_layout(
+    line: &mut Printed,
+    style: Style,
+    bits: Bits,
+    row: &Row,
+    name: &[u8],
+    instr: &Instr,
+)
     requires sound { IsTrue (sound row.now) }
     requires name { length name.now ≤ 20 }
     requires operands { IsTrue (text.has_one_long instr.now) }

@@ -14,6 +14,6 @@ returns-then-are_unnamed-clause-done g c =
     let quiet : are_unnamed names c.args.instr.now ≡ true = cc in
     on_ok_weaker c.append_printed.result
     (λ done. done ∙ sym (ap (λ (t : List ℕ). c.args.out.now.items ++ t)
-        (ap (λ (o : Options). text_by c.args.style o c.args.bits c.args.instr.now c.args.end names) plain
-        ∙ unnamed-text c.args.style c.args.bits c.args.instr.now c.args.end names quiet)))
+    (ap (λ (o : Options). text_by c.args.style o c.args.bits c.args.instr.now c.args.end names) plain
+    ∙ unnamed-text c.args.style c.args.bits c.args.instr.now c.args.end names quiet)))
     c.append_printed.ensures.done

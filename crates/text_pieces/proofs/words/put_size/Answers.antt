@@ -16,8 +16,15 @@ appended c =
 pub append_few-requires-2 : goal.append_few-requires-2
 append_few-requires-2 c = (
   omega arith,
-  omega (arith, ap length c.append_few.ensures, length-append c.args.line.now.text.items c.args.letter.now, ap length c.size_digits.ensures,
-      size_digits-length c.args.size, c.requires.short, c.requires.text),
+  omega (
+    arith,
+    ap length c.append_few.ensures,
+    length-append c.args.line.now.text.items c.args.letter.now,
+    ap length c.size_digits.ensures,
+    size_digits-length c.args.size,
+    c.requires.short,
+    c.requires.text,
+  ),
 )
 
 pub returns-clause-laid : goal.returns-clause-laid
@@ -27,6 +34,11 @@ returns-clause-laid c =
 
 pub returns-clause-size : goal.returns-clause-size
 returns-clause-size c =
-    omega (arith, ap length (c.close.ensures.text ∙ appended c),
-        length-append c.args.line.now.text.items (c.args.letter.now ++ size_digits c.args.size),
-        length-append c.args.letter.now (size_digits c.args.size), size_digits-length c.args.size, c.requires.short)
+    omega (
+      arith,
+      ap length (c.close.ensures.text ∙ appended c),
+      length-append c.args.line.now.text.items (c.args.letter.now ++ size_digits c.args.size),
+      length-append c.args.letter.now (size_digits c.args.size),
+      size_digits-length c.args.size,
+      c.requires.short,
+    )
