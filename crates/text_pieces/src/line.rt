@@ -18,10 +18,10 @@ pub fn close_some(line: &mut Printed, start: usize, operand: Option<u8>, kind: K
     ensures items { line.new.pieces.items ≡ spec.closed start (array_vec_len line.old.text) operand kind line.old.pieces.items }
     ensures len { length line.new.pieces.items ≤ length line.old.pieces.items + 1 }
 {
-    let end = line.text.len();
+    let stop = line.text.len();
     line.pieces.push(Piece {
         start: start as u8,
-        end: end as u8,
+        end: stop as u8,
         operand,
         kind,
     });
