@@ -2245,6 +2245,47 @@ static inline int32_t feddurzai_checked_detour_padding(uint32_t bits, uint64_t i
 #define feddurzai_detour_endbr feddurzai_checked_detour_endbr
 #define feddurzai_detour_padding feddurzai_checked_detour_padding
 
+/*
+ * A resolver of symbols. It returns 1 and writes the name of the symbol at or in front of an address, its length, and how
+ * far the address lies after the symbol; or it returns 0. `user` is what feddurzai_format_with was given.
+ */
+typedef int (*feddurzai_symbol_of)(void *user, uint64_t address, const char **name, size_t *name_len, uint64_t *offset);
+
+/*
+ * Writes the text of an instruction as feddurzai_format_code does, with the symbol that a resolver returns.
+ *
+ *  - symbol_of, user: called at most once, with the target of a near branch or the address of an operand with neither
+ *    base nor index, or at RIP or EIP. symbol_of may be NULL.
+ *  - the others, and what is returned: as in feddurzai_format_code.
+ *
+ *     len = feddurzai_format_with(64, FEDDURZAI_MASM, &gnu, (const uint8_t *)"\xe8\xfb\x0f\x00\x00", 5, &instr, 0x1005,
+ *         symbol_of, NULL, text, sizeof text);
+ */
+static inline int32_t feddurzai_format_with(uint32_t bits, uint32_t syntax, const feddurzai_options *options,
+    const uint8_t *code, size_t code_len, const feddurzai_instr *instr, uint64_t end, feddurzai_symbol_of symbol_of, void *user,
+    char *out, size_t room)
+{
+    feddurzai_piece pieces[FEDDURZAI_MAX_PIECES];
+    char text[FEDDURZAI_MAX_TEXT];
+    const char *name = "";
+    size_t name_len = 0;
+    uint64_t offset = 0;
+    int32_t k, count = 0;
+    if (symbol_of != NULL)
+        count = feddurzai_pieces(bits, syntax, instr, text, sizeof text, pieces, FEDDURZAI_MAX_PIECES);
+    for (k = 0; k < count; k++) {
+        if (pieces[k].role != FEDDURZAI_ROLE_TARGET && pieces[k].role != FEDDURZAI_ROLE_ADDRESS)
+            continue;
+        if (!symbol_of(user, pieces[k].value, &name, &name_len, &offset)) {
+            name = "";
+            name_len = 0;
+            offset = 0;
+        }
+        break;
+    }
+    return feddurzai_format_code(bits, syntax, options, code, code_len, instr, end, name, name_len, offset, out, room);
+}
+
 #ifdef __cplusplus
 }
 #endif

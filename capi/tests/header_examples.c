@@ -110,6 +110,17 @@ static void in_pieces(void)
     CHECK(pieces[2].value, 0x1012);
 }
 
+// Knows one symbol, 8 bytes in front of 0x2000.
+static int symbol_of(void *user, uint64_t address, const char **name, size_t *name_len, uint64_t *offset)
+{
+    if (user != NULL || address != 0x2000)
+        return 0;
+    *name = "puts@plt";
+    *name_len = 8;
+    *offset = 8;
+    return 1;
+}
+
 static void by_options(void)
 {
     static const feddurzai_options gnu = FEDDURZAI_GNU_OPTIONS;
@@ -124,6 +135,18 @@ static void by_options(void)
     // xchg   ax,ax
     CHECK(len, 12);
     CHECK_TEXT("xchg   ax,ax");
+    feddurzai_decode(64, 0x1000, (const uint8_t *)"\xe8\xfb\x0f\x00\x00", 5, &instr);
+    len = feddurzai_format_with(64, FEDDURZAI_MASM, &gnu, (const uint8_t *)"\xe8\xfb\x0f\x00\x00", 5, &instr, 0x1005,
+        symbol_of, NULL, text, sizeof text);
+    CHECK(len, 28);
+    CHECK_TEXT("call   0x2000 <puts@plt+0x8>");
+    len = feddurzai_format_with(64, FEDDURZAI_MASM, &gnu, (const uint8_t *)"\x90", 1, &instr, 0x1005, NULL, NULL, text, sizeof text);
+    CHECK(len, 13);
+    CHECK_TEXT("call   0x2000");
+    feddurzai_decode(64, 0x1000, (const uint8_t *)"\xeb\x00", 2, &instr);
+    len = feddurzai_format_with(64, FEDDURZAI_MASM, &gnu, (const uint8_t *)"\xeb\x00", 2, &instr, 0x1002, symbol_of, NULL, text,
+        sizeof text);
+    CHECK_TEXT("jmp    0x1002");
 }
 
 static void decoded_many(void)
