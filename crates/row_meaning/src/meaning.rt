@@ -207,6 +207,7 @@ pub fn memory_16(m: ModRm, disp: &[u8]) -> Mem
 }
 
 /// Returns the sum of an address and a sign-extended distance, modulo 2 to a size.
+#[inline(always)]
 pub fn target(size: Bits, next: u64, distance: &[u8]) -> u64
     requires { length distance.now ≤ 8 }
     ensures { result ≡ spec.target_of size next distance.now }

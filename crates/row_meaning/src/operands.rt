@@ -7,7 +7,8 @@ ghost use Rattle.row_fit.specs.Fits as fits;
 ghost use Rattle.instruction_parts.specs.Bytes as bytes;
 ghost use Rattle.x86_values.specs.declared.Bits.{Bits};
 ghost use Rattle.instruction_parts.specs.Kinds.{method_of, file_of};
-ghost use Rattle.x86_values.specs.declared.Operand.TheVariants.{Reg};
+ghost use Rattle.x86_values.specs.declared.Operand.TheVariants.{Reg, Mem as MemOperand};
+ghost use Rattle.x86_values.specs.declared.Bits.TheVariants.{B16};
 ghost use Rattle.instruction_parts.specs.Sizes.{state_size, state_address_size, has_address_mark};
 ghost use Rattle.row_fit.specs.Sound.{sound};
 ghost use Rattle.instruction_parts.specs.declared.kinds.Method.TheVariants.{Pointer as PointerMethod};
@@ -29,7 +30,7 @@ use row_fit::tail_fits::{
 use x86_values::{Bits, Code, Instr, Mem, Operand, Register, Rep, wrap};
 
 /// A register number, which is small.
-fn number_u8(n: u16) -> u8
+pub(crate) fn number_u8(n: u16) -> u8
     requires { n < 256 }
     ensures { result ≡ n }
 {
@@ -122,47 +123,56 @@ fn memory_at_base(bits: Bits, asize: Bits, state: &PrefixState, m: ModRm, disp: 
     }
 }
 
-/// An address in 32 and 64-bit addressing.
+/// Writes to `out` an address in 32 and 64-bit addressing.
+// Each arm writes `out`: an address that the arms hand on is put together from its parts again.
 #[inline(always)]
 #[tactic(auto, unfolding(crate::specs::Meaning::memory_wide, row_fit::specs::Fits::sib_in_range))]
-fn memory_wide(bits: Bits, asize: Bits, state: &PrefixState, m: ModRm, behind: &Behind) -> Mem
+fn wide_into(
+    bits: Bits,
+    asize: Bits,
+    state: &PrefixState,
+    m: ModRm,
+    behind: &Behind,
+    out: &mut Operand,
+)
     requires rm { m.rm < 8 }
     requires sib { IsTrue (fits.sib_in_range behind.now.sib) }
     requires disp { length behind.now.disp.now ≤ 8 }
-    ensures { result ≡ spec.memory_wide bits asize state.now m behind.now.sib behind.now.next behind.now.disp.now }
+    ensures { out.new ≡ MemOperand (spec.memory_wide bits asize state.now m behind.now.sib behind.now.next behind.now.disp.now) }
 {
     let disp = behind.disp;
     match behind.sib {
-        Some(s) => memory_with_sib(bits, asize, state, sib_index(asize, state, s), m, s, disp),
+        Some(s) => {
+            let index = sib_index(asize, state, s);
+            *out = Operand::Mem(memory_with_sib(bits, asize, state, index, m, s, disp));
+        }
         None => {
             if m.mode3 == 0 && m.rm == 5 {
-                ip_or_absolute(bits, asize, behind.next, disp)
+                *out = Operand::Mem(ip_or_absolute(bits, asize, behind.next, disp));
             } else {
-                memory_at_base(bits, asize, state, m, disp)
+                *out = Operand::Mem(memory_at_base(bits, asize, state, m, disp));
             }
         }
     }
 }
 
-/// An address of any size.
-#[inline(always)]
-#[tactic(auto, unfolding(crate::specs::Meaning::memory_of))]
-fn memory_of(bits: Bits, asize: Bits, state: &PrefixState, m: ModRm, behind: &Behind) -> Mem
-    requires rm { m.rm < 8 }
-    requires sib { IsTrue (fits.sib_in_range behind.now.sib) }
+/// Writes to `out` the operand that is memory by ModRM in 16-bit addressing.
+#[inline(never)]
+#[tactic(auto, unfolding(crate::specs::Meaning::memory_operand, crate::specs::Meaning::memory_of))]
+fn short_into(bits: Bits, state: &PrefixState, behind: &Behind, out: &mut Operand)
+    requires size { state_address_size bits state.now ≡ B16 }
     requires disp { length behind.now.disp.now ≤ 8 }
-    ensures { result ≡ spec.memory_of bits asize state.now m behind.now.sib behind.now.next behind.now.disp.now }
+    ensures { out.new ≡ spec.memory_operand bits state.now behind.now.modrm behind.now.sib behind.now.disp.now behind.now.next }
 {
-    match asize {
-        Bits::B16 => memory_16(m, behind.disp),
-        Bits::B32 => memory_wide(bits, Bits::B32, state, m, behind),
-        Bits::B64 => memory_wide(bits, Bits::B64, state, m, behind),
+    match behind.modrm {
+        None => *out = Operand::Absent,
+        Some(m) => *out = Operand::Mem(memory_16(m, behind.disp)),
     }
 }
 
 /// The operand that is memory by ModRM, written to `out`.
 #[inline(never)]
-#[tactic(auto, unfolding(crate::specs::Meaning::memory_operand, row_fit::specs::Fits::modrm_in_range))]
+#[tactic(auto, unfolding(crate::specs::Meaning::memory_operand, crate::specs::Meaning::memory_of, row_fit::specs::Fits::modrm_in_range))]
 pub(crate) fn memory_into(bits: Bits, state: &PrefixState, behind: &Behind, out: &mut Operand)
     requires modrm { IsTrue (fits.modrm_in_range behind.now.modrm) }
     requires sib { IsTrue (fits.sib_in_range behind.now.sib) }
@@ -171,9 +181,11 @@ pub(crate) fn memory_into(bits: Bits, state: &PrefixState, behind: &Behind, out:
 {
     match behind.modrm {
         None => *out = Operand::Absent,
-        Some(m) => {
-            *out = Operand::Mem(memory_of(bits, state_address_size(bits, state), state, m, behind))
-        }
+        Some(m) => match state_address_size(bits, state) {
+            Bits::B16 => short_into(bits, state, behind, out),
+            Bits::B32 => wide_into(bits, Bits::B32, state, m, behind, out),
+            Bits::B64 => wide_into(bits, Bits::B64, state, m, behind, out),
+        },
     }
 }
 
@@ -236,8 +248,9 @@ fn memory_absolute(asize: Bits, disp: &[u8]) -> Mem
 }
 
 /// A near target.
+#[inline(always)]
 #[tactic(auto, unfolding(crate::specs::Meaning::near_target))]
-fn near_target(size: Bits, next: u64, imm: &[u8]) -> Operand
+pub(crate) fn near_target(size: Bits, next: u64, imm: &[u8]) -> Operand
     requires { length imm.now ≤ 8 }
     ensures { result ≡ spec.near_target size next imm.now }
 {
