@@ -17,7 +17,7 @@ use crate::cell::{cell_of, error_of};
 use crate::found::read_found;
 use instruction_parts::PrefixState;
 use modrm_sib::UNREAD;
-use prefixes::{NO_FRONT, PrefixError, mode_of, read_front_into};
+use prefixes::{NO_FRONT, PrefixError, mode_of, read_front_into, simple_front};
 use std::sync::ledger::{Blank, Ledger};
 use step_count::Steps;
 use x86_values::{Bits, Decoded, wrap};
@@ -98,6 +98,31 @@ pub fn decode_counted<const BITS: u32, L: Ledger>(
 /// Reads and counts as [`decode_counted`], and writes the instruction to `out`: as a value it would be copied at each call on the way.
 #[inline(never)]
 fn read_counted<const BITS: u32, L: Ledger>(
+    ip: u64,
+    bytes: &[u8],
+    out: &mut Decoded,
+    steps: &mut Steps<L>,
+) -> Result<(), DecodeError>
+    requires { IsTrue (is_mode BITS) }
+    ensures reading { IsRead (mode_of BITS) ip bytes.now (reading_of (answer_in result out.new)) }
+    ensures length { IfOk (answer_in result out.new)
+        (λ d. (0 < d.len) × (d.len ≤ 15) × (d.len ≤ length bytes.now)) }
+    ensures form { IfOk (answer_in result out.new) (λ d. IsTrue (is_well_formed d.instr)) }
+    ensures alone { IfOk (answer_in result out.new) (λ d. IsOnlyReading (mode_of BITS) ip bytes.now d) }
+    ensures instruction { IfOk (answer_in result out.new)
+        (λ d. (steps.old + 3 ≤ steps.new) × (steps.new ≤ steps.old + 12)) }
+    ensures most { steps.new ≤ steps.old + most_steps (front_of (mode_of BITS) bytes.now) }
+{
+    let bits = mode_of::<BITS>();
+    match simple_front(bits, bytes) {
+        None => read_behind_any::<BITS, L>(ip, bytes, out, steps),
+        Some(state) => read_known::<BITS, L>(wrap(bits, u128::from(ip)), &state, bytes, out, steps),
+    }
+}
+
+/// Reads and counts as [`decode_counted`] behind any front.
+#[inline(never)]
+fn read_behind_any<const BITS: u32, L: Ledger>(
     ip: u64,
     bytes: &[u8],
     out: &mut Decoded,

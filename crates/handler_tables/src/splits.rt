@@ -88,8 +88,8 @@ pub(crate) fn front_size_field<const BITS: u32>(
 }
 
 /// Returns the number of the operand size, from the prefixes and the mode only.
-// Not built into the walk either, as it would be made before the first node.
-#[inline(never)]
+// Built into the walk: there it is made before the first node, in few instructions where no prefix but REX stands before the opcode byte.
+#[inline(always)]
 fn state_size_number<const BITS: u32>(state: &PrefixState) -> usize
     ensures { result ≡ size_number
         (plain_size (mode_of BITS) (fields.size66_of state.now.vex state.now.size66) (fields.w_of state.now.vex state.now.rex)) }

@@ -160,7 +160,8 @@ or_true : (a : Bool) → (a || true) ≡ true
 or_true true = refl
 or_true false = refl
 
-rex_is_prefix : (bits : Bits) (b : ℕ) → is_64 bits ≡ true → is_rex b ≡ true → is_prefix bits b ≡ true
+-- a REX is a prefix in 64-bit mode
+pub rex_is_prefix : (bits : Bits) (b : ℕ) → is_64 bits ≡ true → is_rex b ≡ true → is_prefix bits b ≡ true
 unfolding is_prefix
 rex_is_prefix bits b h k = rw (h, k) (or_true (is_legacy_prefix b))
 

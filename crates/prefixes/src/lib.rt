@@ -1,8 +1,11 @@
 //! The front of an instruction, read and written: prefixes, escape bytes, VEX and the opcode byte (Intel SDM volume 2, 2.1.1, 2.2.1, 2.3.5).
 #![tactic(auto)]
 
-ghost use Rattle.std.specs.Prelude.{◌≡◌, ◌<◌, ◌≤◌, ◌+◌, IsTrue, length, take_while, ◌∷◌, min};
+ghost use Rattle.std.specs.Prelude.{◌≡◌, ◌<◌, ◌≤◌, ◌+◌, ℕ, IsTrue, IfSome, List, [], None, is_some, if◌then◌else◌, length, take_while, ◌∷◌, min};
 ghost use Rattle.instruction_parts.specs.Front as front;
+ghost use Rattle.instruction_parts.specs.Front.{Known};
+ghost use Rattle.x86_values.specs.declared.Bits.{Bits};
+ghost use Rattle.prefixes.specs.Simple as simple;
 ghost use Rattle.instruction_parts.specs.Counting as counting;
 ghost use Rattle.instruction_parts.specs.Bytes.{state_from};
 ghost use Rattle.instruction_parts.specs.declared.spelling.PrefixState.{PrefixState};
@@ -390,6 +393,129 @@ fn is_prefix_byte(bits: Bits, b: u8) -> bool
         false
     } else {
         is_prefix(bits, b)
+    }
+}
+
+/// What follows the prefixes of a front with neither VEX nor second escape byte.
+#[derive(Clone, Copy)]
+struct SimpleLead {
+    /// The number of escape bytes: 0 or 1.
+    escapes: u8,
+    map: Map,
+    opcode: u8,
+}
+
+/// Returns whether a byte is an opcode byte by itself: it is no prefix, not 62 in 64-bit mode, and cannot begin a VEX.
+#[inline(always)]
+fn is_lone_opcode(bits: Bits, b: u8) -> bool
+    ensures { result ≡ simple.is_lone_opcode bits b }
+{
+    !(b == 0xC4 || b == 0xC5) && !is_prefix_byte(bits, b) && !(is_64(bits) && b == 0x62)
+}
+
+/// The opcode byte behind 0F, if it is no second escape byte.
+#[inline(always)]
+#[tactic(auto, unfolding(crate::specs::Simple::is_escaped, instruction_parts::specs::Front::escape_front, instruction_parts::specs::Front::opcode_front))]
+fn escaped_lead(bytes: &[u8]) -> Option<SimpleLead>
+    ensures when { is_some result ≡ simple.is_escaped bytes.now }
+    ensures lead { IfSome result (λ l. (bits : Bits) (prefixes : List ℕ) → front.escape_front bits prefixes bytes.now
+        ≡ Known (state_from bits prefixes (length prefixes + l.escapes) None l.map l.opcode)) }
+    ensures few { IfSome result (λ l. l.escapes < 2) }
+{
+    match bytes.split_first() {
+        None => None,
+        Some((b, _)) => {
+            if *b == 0x38 || *b == 0x3A || *b == 0x0F {
+                None
+            } else {
+                Some(SimpleLead {
+                    escapes: 1,
+                    map: Map::M0f,
+                    opcode: *b,
+                })
+            }
+        }
+    }
+}
+
+/// The opcode byte at the front of bytes, also behind 0F; None if they begin with a prefix, a VEX or two escape bytes, or have no opcode byte.
+#[inline(always)]
+#[tactic(auto, unfolding(crate::specs::Simple::is_simple_lead, instruction_parts::specs::Front::lead_front, instruction_parts::specs::Front::opcode_front))]
+fn simple_lead(bits: Bits, bytes: &[u8]) -> Option<SimpleLead>
+    ensures when { is_some result ≡ simple.is_simple_lead bits bytes.now }
+    ensures run { IfSome result (λ _. front.prefix_run bits bytes.now ≡ []) }
+    ensures lead { IfSome result (λ l. (prefixes : List ℕ) → front.lead_front bits prefixes bytes.now
+        ≡ Known (state_from bits prefixes (length prefixes + l.escapes) None l.map l.opcode)) }
+    ensures few { IfSome result (λ l. l.escapes < 2) }
+{
+    match bytes.split_first() {
+        None => None,
+        Some((b, rest)) => {
+            if *b == 0x0F {
+                escaped_lead(rest)
+            } else if is_lone_opcode(bits, *b) {
+                Some(SimpleLead {
+                    escapes: 0,
+                    map: Map::One,
+                    opcode: *b,
+                })
+            } else {
+                None
+            }
+        }
+    }
+}
+
+/// The first byte, if it is a REX.
+#[inline(always)]
+#[tactic(auto, unfolding(crate::specs::Simple::has_rex))]
+fn leading_rex(bits: Bits, bytes: &[u8]) -> Option<u8>
+    ensures when { is_some result ≡ simple.has_rex bits bytes.now }
+    ensures rex { IfSome result (λ rex. simple.IsLeadingRex bits bytes.now rex) }
+{
+    match bytes.split_first() {
+        None => None,
+        Some((b, _)) => {
+            if is_64(bits) && is_rex(*b) {
+                Some(*b)
+            } else {
+                None
+            }
+        }
+    }
+}
+
+/// The number of bytes of a REX, if there is one.
+#[inline(always)]
+fn rex_len(rex: Option<u8>) -> u8
+    ensures { result ≡ if is_some rex then 1 else 0 }
+{
+    match rex {
+        None => 0,
+        Some(_) => 1,
+    }
+}
+
+/// Returns the front of bytes with no prefix or a REX alone, before an opcode byte alone or behind 0F; None for any other bytes, which [`read_front_into`]
+/// reads.
+// Most fronts are such. All their other fields are constants, and the code behind a call is compiled with them.
+#[inline(always)]
+pub fn simple_front(bits: Bits, bytes: &[u8]) -> Option<PrefixState>
+    ensures when { is_some result ≡ simple.is_simple bits bytes.now }
+    ensures front { IfSome result (λ state. front.front_of bits bytes.now ≡ Known state) }
+{
+    let rex = leading_rex(bits, bytes);
+    let run = rex_len(rex);
+    let (_, rest) = bytes.split_at(run as usize);
+    match simple_lead(bits, rest) {
+        None => None,
+        Some(lead) => Some(PrefixState {
+            used: run + lead.escapes,
+            rex,
+            map: lead.map,
+            opcode: lead.opcode,
+            ..NO_FRONT
+        }),
     }
 }
 
