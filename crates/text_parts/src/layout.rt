@@ -187,6 +187,21 @@ fn append_operand_part<const N: usize>(
     }
 }
 
+/// Appends a name. Most have two to five bytes, which are moved without a call.
+#[inline(always)]
+fn append_mnemonic<const N: usize>(out: &mut ArrayVec<u8, N>, name: &[u8])
+    requires { array_vec_len out.old + length name.now ≤ N }
+    ensures { out.new.items ≡ out.old.items ++ name.now }
+{
+    match name {
+        [a, b] => append_few(out, &[*a, *b]),
+        [a, b, c] => append_few(out, &[*a, *b, *c]),
+        [a, b, c, d] => append_few(out, &[*a, *b, *c, *d]),
+        [a, b, c, d, e] => append_few(out, &[*a, *b, *c, *d, *e]),
+        _ => append(out, name),
+    }
+}
+
 /// Appends the text of an instruction of a row with this name. `out` must have enough space left.
 #[tactic(auto, unfolding(crate::specs::Layout::bracket_layout))]
 fn append_short<const N: usize>(
@@ -202,7 +217,7 @@ fn append_short<const N: usize>(
     ensures { out.new.items ≡ out.old.items ++ spec.bracket_layout style bits row.now name.now instr.now }
 {
     append_prefix_words(out, bits, row, name, instr);
-    append(out, name_text(bits, name, instr));
+    append_mnemonic(out, name_text(bits, name, instr));
     append_operand_part(out, style, bits, row, instr, 0);
     append_operand_part(out, style, bits, row, instr, 1);
     append_operand_part(out, style, bits, row, instr, 2);
