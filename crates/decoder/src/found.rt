@@ -122,6 +122,7 @@ fn read_bare<L: Ledger>(
 }
 
 /// Reads by a row, and tests all its conditions.
+#[cold]
 #[inline(never)]
 fn read_asked<L: Ledger>(
     bits: Bits,

@@ -121,6 +121,7 @@ fn read_counted<const BITS: u32, L: Ledger>(
 }
 
 /// Reads and counts as [`decode_counted`] behind any front.
+#[cold]
 #[inline(never)]
 fn read_behind_any<const BITS: u32, L: Ledger>(
     ip: u64,
