@@ -496,8 +496,7 @@ fn rex_len(rex: Option<u8>) -> u8
     }
 }
 
-/// Returns the front of bytes with no prefix or a REX alone, before an opcode byte alone or behind 0F; None for any other bytes, which [`read_front_into`]
-/// reads.
+/// Returns the front of bytes with no prefix or a REX alone, before an opcode byte alone or behind 0F; None for any other bytes.
 // Most fronts are such. All their other fields are constants, and the code behind a call is compiled with them.
 #[inline(always)]
 pub fn simple_front(bits: Bits, bytes: &[u8]) -> Option<PrefixState>
