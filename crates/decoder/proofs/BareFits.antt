@@ -29,8 +29,8 @@ use Rattle.instruction_parts.specs.Kinds.{method_of}
 use Rattle.instruction_parts.specs.Sizes.{exists_in, is_lockable, is_vex_row, operand_size, state_size, bit_w}
 use Rattle.row_fit.specs.Fits.{immediates_bytes, immediate_bytes, is_any_mode, is_offset, reads_mode, same_map, vex_class_fits, w_fits, l_fits, is_vvvv, is_memory_method, reg_field, is_map_one, legacy_class_fits, class_fits, size_fits, takes_w_as_size, sizes_fit, vvvv_fits, opcode_allows, opcode_fits, modrm_rule_fits, place_allows, place_of, place_fits, opcode_and_modrm_fit, is_gather, reads_by, kind_at, lock_fits, register_fits, destination_fits, gather_fits, nop_fits, registers_fit, state_fits}
 use Rattle.row_fit.specs.Sound.{has_modrm_rule}
-use Rattle.row_lists.specs.declared.row_fields.Fields.{Fields}
-use Rattle.row_lists.specs.RowFields.Holds.{is_vex, map_number, stands_in, opcode_holds, prefix_of, class_allows, prefix_holds, byte_of, byte_holds, place_holds, reg_holds, rm_holds, size_allows, size_holds, w_holds, l_holds, rex_b_holds, holds}
+use Rattle.instruction_parts.specs.declared.row_fields.Fields.{Fields}
+use Rattle.instruction_parts.specs.RowFields.Holds.{is_vex, map_number, stands_in, opcode_holds, prefix_of, class_allows, prefix_holds, byte_of, byte_holds, place_holds, reg_holds, rm_holds, size_allows, size_holds, w_holds, l_holds, rex_b_holds, holds}
 use Rattle.opcode_rows.proofs.UniqueSpelling.Parts.{legacy-class}
 use Rattle.opcode_rows.specs.UniqueSpelling.FieldsOf.{fields_of, first_byte, repeat_of, size66_of, w_of}
 use Rattle.modrm_sib.specs.Parts.{modrm_of_byte, lead_fits, parts_fit, modrm_in}

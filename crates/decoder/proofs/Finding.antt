@@ -7,7 +7,7 @@ use Rattle.instruction_parts.specs.declared.spelling.PrefixState.{PrefixState}
 use Rattle.instruction_parts.specs.Bytes.{bytes_of, front_bytes, tail_bytes, state_of, state_from}
 use Rattle.instruction_parts.specs.Front.{Known, long_front, front_of}
 use Rattle.row_relation.specs.Spells.{SpellsNothing}
-use Rattle.row_lists.specs.RowFields.Holds.{holds, HoldsNowhere, IsOnlyRow}
+use Rattle.instruction_parts.specs.RowFields.Holds.{holds, HoldsNowhere, IsOnlyRow}
 use Rattle.opcode_rows.specs.Table.{table}
 use Rattle.opcode_rows.specs.UniqueSpelling.FieldsOf.{fields_of, first_byte}
 use Rattle.opcode_rows.proofs.UniqueSpelling.Unique.{row-holds}

@@ -9,8 +9,8 @@ use Rattle.instruction_parts.specs.declared.row_types.Plus.TheVariants.{No as No
 use Rattle.instruction_parts.specs.declared.spelling.PrefixState.{PrefixState}
 use Rattle.instruction_parts.specs.Sizes.{is_vex_row}
 use Rattle.row_fit.specs.Fits.{opcode_fits}
-use Rattle.row_lists.specs.RowFields.Holds.{is_vex, map_number, opcode_holds, stands_in, rows_at}
-use Rattle.row_lists.specs.Cells.{stands_in_cell, cell_of, IsRunOf}
+use Rattle.instruction_parts.specs.RowFields.Holds.{is_vex, map_number, opcode_holds, stands_in, rows_at}
+use Rattle.instruction_parts.specs.Cells.{stands_in_cell, cell_of, IsRunOf}
 use Rattle.opcode_rows.specs.Table.{table, cell}
 use Rattle.opcode_rows.proofs.CellRuns.{run-cell}
 use Rattle.decoder.specs.Cells.{IsInCell, CellIs, cell_count}

@@ -9,7 +9,7 @@ use Rattle.instruction_parts.specs.Sizes.{is_vex_row}
 use Rattle.instruction_parts.specs.Bytes.{bytes_of}
 use Rattle.instruction_parts.specs.Front.{Front, Known}
 use Rattle.row_fit.specs.Fits.{fits, opcode_fits}
-use Rattle.row_lists.specs.RowFields.Holds.{map_number, rows_at}
+use Rattle.instruction_parts.specs.RowFields.Holds.{map_number, rows_at}
 use Rattle.opcode_rows.specs.Table.{table}
 use Rattle.row_relation.specs.RowReading.{RowCanGoOn}
 

@@ -3,7 +3,7 @@
 ghost use Rattle.std.specs.Prelude.{◌≡◌, ◌+◌, ◌≤◌, is_some, Err};
 ghost use Rattle.instruction_parts.specs.Front.{front_of, Known};
 ghost use Rattle.row_relation.specs.Spells.{IsReading, SpellsNothing};
-ghost use Rattle.row_lists.specs.RowFields.Holds.{is_vex};
+ghost use Rattle.instruction_parts.specs.RowFields.Holds.{is_vex};
 ghost use Rattle.opcode_rows.specs.Table.{table};
 ghost use Rattle.decoder.specs.Answer.{reading_of};
 ghost use Rattle.decoder.specs.Cells.{CellIs, cell_count};

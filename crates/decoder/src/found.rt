@@ -6,7 +6,7 @@ ghost use Rattle.prefixes.specs.Answer.{is_mode, mode_of};
 ghost use Rattle.row_relation.specs.Spells.{ReadsAs, SpellsNothing};
 ghost use Rattle.row_relation.specs.RowReading.{RowReads};
 ghost use Rattle.instruction_parts.specs.declared.row_types.Row.{Row};
-ghost use Rattle.row_lists.specs.RowFields.Holds.{holds};
+ghost use Rattle.instruction_parts.specs.RowFields.Holds.{holds};
 ghost use Rattle.opcode_rows.specs.UniqueSpelling.FieldsOf.{fields_of};
 ghost use Rattle.opcode_rows.specs.Table.{table};
 ghost use Rattle.opcode_rows.specs.Allowed.{is_well_formed};

@@ -1,9 +1,9 @@
 -- What is computed of the nested tables.
 use Rattle.std.proofs.Common.{◌≡◌, true, refl}
-use Rattle.row_lists.specs.RowFields.Candidates.{rows_with_codes, of_number, at_opcode, cands, mask_at, clear, keep, is_empty, is_free, all_free, is_one, below}
+use Rattle.instruction_parts.specs.RowFields.Candidates.{rows_with_codes, of_number, at_opcode, cands, mask_at, clear, keep, is_empty, is_free, all_free, is_one, below}
 use Rattle.instruction_parts.specs.Sizes.{exists_in}
-use Rattle.row_lists.specs.RowFields.Holds.{prefix_holds, w_holds, rex_b_holds}
-use Rattle.row_lists.specs.RowFields.Masks.{nth, allows, meets, two, three, four, reg_mask, rm_mask, marked_size, size_mask, masks}
+use Rattle.instruction_parts.specs.RowFields.Holds.{prefix_holds, w_holds, rex_b_holds}
+use Rattle.instruction_parts.specs.RowFields.Masks.{nth, allows, meets, two, three, four, reg_mask, rm_mask, marked_size, size_mask, masks}
 use Rattle.x86_values.specs.Modes.{size_number}
 use Rattle.opcode_rows.specs.Parts.{integer_rows, integer_flat, x87_rows, x87_flat, sse_rows, sse_flat, vex_rows, vex_flat}
 use Rattle.opcode_rows.specs.Table.{spots, rows_in, table}

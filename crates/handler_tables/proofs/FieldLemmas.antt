@@ -5,11 +5,11 @@ use Rattle.x86_values.specs.declared.Bits.TheVariants.{B16, B32, B64}
 use Rattle.x86_values.specs.declared.Rep.{Rep}
 use Rattle.x86_values.specs.declared.Rep.TheVariants as rep
 use Rattle.instruction_parts.specs.Bytes.{bit}
-use Rattle.row_lists.specs.declared.row_fields.Fields.{Fields}
-use Rattle.row_lists.specs.RowFields.Holds.{prefix_of}
+use Rattle.instruction_parts.specs.declared.row_fields.Fields.{Fields}
+use Rattle.instruction_parts.specs.RowFields.Holds.{prefix_of}
 use Rattle.x86_values.specs.Modes.{size_number}
-use Rattle.row_lists.specs.RowFields.FieldNumbers.{plain_size}
-use Rattle.row_lists.proofs.RowFields.Apart.{map_number-lt}
+use Rattle.instruction_parts.specs.RowFields.FieldNumbers.{plain_size}
+use Rattle.instruction_parts.proofs.RowFields.Apart.{map_number-lt}
 use Rattle.handler_tables.specs.declared.node.Split.{Split}
 use Rattle.handler_tables.specs.declared.node.Split.TheVariants as split
 use Rattle.handler_tables.specs.Splits.{width_of, field_at}

@@ -1,16 +1,16 @@
 -- The first two look-ups of a walk: the kind, and the opcode byte.
 use Rattle.std.proofs.Common.{◌≡◌, ℕ, ◌<◌, Bool, true, ◌&&◌, List, [], length, slice_get, refl, ap, sym, ◌∙◌, lit<}
 use Rattle.std.proofs.lemmas.Bool.{and_parts}
-use Rattle.row_lists.specs.RowFields.Candidates.{Cand, Coded, rows_with_codes, of_number, at_opcode, cands, alive, keep, value_at}
-use Rattle.row_lists.proofs.RowFields.Cands.{alive-cands, alive-keep, below-at}
+use Rattle.instruction_parts.specs.RowFields.Candidates.{Cand, Coded, rows_with_codes, of_number, at_opcode, cands, alive, keep, value_at}
+use Rattle.instruction_parts.proofs.RowFields.Cands.{alive-cands, alive-keep, below-at}
 use Rattle.std.specs.Prelude.{Option, Some, None}
 use Rattle.std.proofs.lemmas.Option.{slice_get_within}
 use Rattle.x86_values.specs.declared.Bits.{Bits}
 use Rattle.x86_values.specs.declared.Bits.TheVariants.{B16, B32, B64}
-use Rattle.row_lists.specs.declared.row_fields.Fields.{Fields}
-use Rattle.row_lists.specs.RowFields.Holds.{codes_holding, map_number}
-use Rattle.row_lists.specs.RowFields.Masks.{values}
-use Rattle.row_lists.proofs.RowFields.Apart.{map_number-lt}
+use Rattle.instruction_parts.specs.declared.row_fields.Fields.{Fields}
+use Rattle.instruction_parts.specs.RowFields.Holds.{codes_holding, map_number}
+use Rattle.instruction_parts.specs.RowFields.Masks.{values}
+use Rattle.instruction_parts.proofs.RowFields.Apart.{map_number-lt}
 use Rattle.opcode_rows.specs.Table.{table}
 use Rattle.handler_tables.specs.declared.node.Next.{Next}
 use Rattle.handler_tables.specs.declared.node.Next.TheVariants.{Stop, Leaf, N2, N3, N4, N8, N256}

@@ -1,6 +1,6 @@
 -- A test of the nested tables against the rows: each node is right for the candidates that are left on its way.
 use Rattle.std.proofs.Common.{ℕ, zero, suc, Bool, true, false, ◌&&◌, List, [], ◌∷◌, slice_get, nat_le}
-use Rattle.row_lists.specs.RowFields.Candidates.{Cand, Coded, rows_with_codes, of_number, at_opcode, cands, keep, is_empty, is_one, below}
+use Rattle.instruction_parts.specs.RowFields.Candidates.{Cand, Coded, rows_with_codes, of_number, at_opcode, cands, keep, is_empty, is_one, below}
 use Rattle.std.specs.Prelude.{Option, Some, None}
 use Rattle.x86_values.specs.declared.Bits.{Bits}
 use Rattle.x86_values.specs.declared.Bits.TheVariants.{B16, B32, B64}

@@ -1,14 +1,14 @@
 -- What the test of the nested tables says of a walk.
 use Rattle.std.proofs.Common.{◌≡◌, ℕ, zero, suc, ◌+◌, ◌≤◌, Bool, true, List, [], ◌∷◌, slice_get, nat_le, refl, sym, ◌∙◌, arith, leb-true}
 use Rattle.std.proofs.lemmas.Bool.{and_parts}
-use Rattle.row_lists.specs.RowFields.Candidates.{Cand, alive, keep, value_at}
-use Rattle.row_lists.proofs.RowFields.Cands.{alive-keep, alive-is_empty, alive-is_one}
+use Rattle.instruction_parts.specs.RowFields.Candidates.{Cand, alive, keep, value_at}
+use Rattle.instruction_parts.proofs.RowFields.Cands.{alive-keep, alive-is_empty, alive-is_one}
 use Rattle.std.specs.Prelude.{Option, Some, None}
 use Rattle.x86_values.specs.declared.Bits.{Bits}
 use Rattle.x86_values.specs.declared.Code.{Code}
-use Rattle.row_lists.specs.declared.row_fields.Fields.{Fields}
-use Rattle.row_lists.specs.RowFields.Holds.{codes_holding}
-use Rattle.row_lists.specs.RowFields.Masks.{values}
+use Rattle.instruction_parts.specs.declared.row_fields.Fields.{Fields}
+use Rattle.instruction_parts.specs.RowFields.Holds.{codes_holding}
+use Rattle.instruction_parts.specs.RowFields.Masks.{values}
 use Rattle.x86_values.specs.Modes.{size_number}
 use Rattle.opcode_rows.specs.Table.{table}
 use Rattle.handler_tables.specs.declared.node.Next.{Next}

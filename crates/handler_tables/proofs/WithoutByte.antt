@@ -8,8 +8,8 @@ use Rattle.instruction_parts.specs.declared.row_types.Row.{Row}
 use Rattle.instruction_parts.specs.declared.row_types.ModRmRule.{ModRmRule}
 use Rattle.instruction_parts.specs.declared.row_types.ModRmRule.TheVariants as rule
 use Rattle.instruction_parts.specs.Sizes.{exists_in}
-use Rattle.row_lists.specs.declared.row_fields.Fields.{Fields}
-use Rattle.row_lists.specs.RowFields.Holds.{holds, stands_in, map_number, byte_holds, HoldsNowhere, IsOnlyRow}
+use Rattle.instruction_parts.specs.declared.row_fields.Fields.{Fields}
+use Rattle.instruction_parts.specs.RowFields.Holds.{holds, stands_in, map_number, byte_holds, HoldsNowhere, IsOnlyRow}
 use Rattle.opcode_rows.specs.Table.{table}
 
 asks-no-byte : (m : ModRmRule) → byte_holds m false ≡ true → m ≡ rule.No

@@ -2,10 +2,10 @@
 use Rattle.std.specs.Prelude.{ℕ, ◌==◌, ◌/◌, ◌%◌, Option, Some, None}
 use Rattle.x86_values.specs.declared.Bits.{Bits}
 use Rattle.instruction_parts.specs.Bytes.{bit}
-use Rattle.row_lists.specs.declared.row_fields.Fields.{Fields}
-use Rattle.row_lists.specs.RowFields.Holds.{map_number, byte_of, prefix_of}
+use Rattle.instruction_parts.specs.declared.row_fields.Fields.{Fields}
+use Rattle.instruction_parts.specs.RowFields.Holds.{map_number, byte_of, prefix_of}
 use Rattle.x86_values.specs.Modes.{size_number}
-use Rattle.row_lists.specs.RowFields.FieldNumbers.{plain_size}
+use Rattle.instruction_parts.specs.RowFields.FieldNumbers.{plain_size}
 use Rattle.handler_tables.specs.declared.node.Split.{Split}
 use Rattle.handler_tables.specs.declared.node.Split.TheVariants as split
 

@@ -10,6 +10,6 @@ mod source;
 mod splits;
 mod walk;
 
+pub use instruction_parts::row_fields::Fields;
 pub use node::{Next, Node};
-pub use row_lists::row_fields::Fields;
 pub use walk::{find, find_front};

@@ -2,15 +2,15 @@
 ghost use Rattle.std.specs.Prelude.{◌≡◌};
 ghost use Rattle.prefixes.specs.Answer.{mode_of};
 ghost use Rattle.x86_values.specs.declared.Bits.{Bits};
-ghost use Rattle.row_lists.specs.declared.row_fields.Fields.{Fields};
-ghost use Rattle.row_lists.specs.RowFields.Holds.{map_number};
+ghost use Rattle.instruction_parts.specs.declared.row_fields.Fields.{Fields};
+ghost use Rattle.instruction_parts.specs.RowFields.Holds.{map_number};
 ghost use Rattle.opcode_rows.specs.UniqueSpelling.FieldsOf.{fields_of};
 ghost use Rattle.handler_tables.specs.Splits.{field_at, root_of};
 
 use crate::node::Split;
 use crate::splits::{front_field, front_kind, front_size_field, given_field, kind_of};
 use instruction_parts::PrefixState;
-use row_lists::row_fields::Fields;
+use instruction_parts::row_fields::Fields;
 
 /// What gives a mode and the nine fields, one at a time: only what a node splits by is read.
 pub(crate) trait FieldSource {

@@ -1,8 +1,8 @@
 //! What nodes split by, as numbers of the fields.
 ghost use Rattle.std.specs.Prelude.{◌≡◌, is_some};
 ghost use Rattle.prefixes.specs.Answer.{mode_of};
-ghost use Rattle.row_lists.specs.RowFields.Holds.{map_number, prefix_of, byte_of};
-ghost use Rattle.row_lists.specs.RowFields.FieldNumbers.{plain_size};
+ghost use Rattle.instruction_parts.specs.RowFields.Holds.{map_number, prefix_of, byte_of};
+ghost use Rattle.instruction_parts.specs.RowFields.FieldNumbers.{plain_size};
 ghost use Rattle.x86_values.specs.Modes.{size_number};
 ghost use Rattle.instruction_parts.specs.Bytes as parts;
 ghost use Rattle.instruction_parts.specs.Counting.{rex_bit};
@@ -11,9 +11,9 @@ ghost use Rattle.handler_tables.specs.Splits.{field_at};
 
 use crate::node::Split;
 use instruction_parts::PrefixState;
+use instruction_parts::row_fields::{Fields, Map, Rep};
 use instruction_parts::sizes::bit_of_rex;
 use prefixes::mode_of;
-use row_lists::row_fields::{Fields, Map, Rep};
 use x86_values::{Bits, size_number};
 
 /// Returns the number of the field by which a node splits, from a front and the byte after its opcode byte.

@@ -1,7 +1,7 @@
 //! The walk from the root to a row.
 ghost use Rattle.std.specs.Prelude.{◌≡◌, ◌+◌, ◌<◌, ◌≤◌, length, slice_get, Some, None, MatchOption, IfSome, IsSome, IsTrue};
 ghost use Rattle.prefixes.specs.Answer.{is_mode, mode_of};
-ghost use Rattle.row_lists.specs.RowFields.Holds.{HoldsNowhere, IsOnlyRow};
+ghost use Rattle.instruction_parts.specs.RowFields.Holds.{HoldsNowhere, IsOnlyRow};
 ghost use Rattle.opcode_rows.specs.Table.{table};
 ghost use Rattle.handler_tables.specs.Nodes.{nodes2, nodes3, nodes4, nodes8, nodes256, splits2, splits3, splits4, splits8};
 ghost use Rattle.opcode_rows.specs.UniqueSpelling.FieldsOf.{fields_of};
@@ -15,7 +15,7 @@ use crate::generated_nodes::{
 use crate::node::{Next, Node, Split};
 use crate::source::{FieldSource, Front, Given};
 use instruction_parts::PrefixState;
-use row_lists::row_fields::Fields;
+use instruction_parts::row_fields::Fields;
 use std::sync::ledger::Ledger;
 use step_count::Steps;
 use x86_values::Code;

@@ -4,3 +4,9 @@ pub mod Sizes
 pub mod Bytes
 pub mod Front
 pub mod RowTypes
+pub mod Flat
+pub mod Cells
+pub mod Spans
+pub mod Runs
+pub mod Lists
+pub mod RowFields

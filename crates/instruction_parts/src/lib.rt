@@ -6,6 +6,8 @@ pub mod append;
 pub mod bytes;
 pub mod counting;
 pub mod kinds;
+pub mod row_fields;
+pub mod row_lists;
 pub mod row_types;
 pub mod sizes;
 pub mod spelling;

@@ -6,13 +6,13 @@ use Rattle.instruction_parts.specs.declared.row_types.Plus.{Plus}
 use Rattle.instruction_parts.specs.declared.row_types.Plus.TheVariants as plus
 use Rattle.instruction_parts.specs.declared.row_types.RowKind.{RowKind}
 use Rattle.instruction_parts.specs.declared.row_types.Row.{Row}
-use Rattle.row_lists.specs.RowFields.Holds.{keep_if, opcode_holds}
-use Rattle.row_lists.specs.RowFields.Candidates.{Coded, rows_with_codes, of_number, at_opcode, below}
-use Rattle.row_lists.proofs.RowFields.Cands.{at_opcode-keep_if, below-at}
-use Rattle.row_lists.proofs.RowFields.Apart.{cell_apart, kind_apart, table_apart}
-use Rattle.row_lists.specs.declared.Span.{Span}
-use Rattle.row_lists.specs.Cells.{cell_span}
-use Rattle.row_lists.specs.Runs.{run_at, line_runs, first_number, spans_fit}
+use Rattle.instruction_parts.specs.RowFields.Holds.{keep_if, opcode_holds}
+use Rattle.instruction_parts.specs.RowFields.Candidates.{Coded, rows_with_codes, of_number, at_opcode, below}
+use Rattle.instruction_parts.proofs.RowFields.Cands.{at_opcode-keep_if, below-at}
+use Rattle.instruction_parts.proofs.RowFields.Apart.{cell_apart, kind_apart, table_apart}
+use Rattle.instruction_parts.specs.declared.row_lists.Span.{Span}
+use Rattle.instruction_parts.specs.Cells.{cell_span}
+use Rattle.instruction_parts.specs.Runs.{run_at, line_runs, first_number, spans_fit}
 
 -- a row whose opcode byte is the first of eight may stand at one of sixteen
 abbrev near : ℕ → ℕ → Bool

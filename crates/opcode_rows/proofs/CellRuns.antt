@@ -1,17 +1,17 @@
 -- The rows of each cell are a run of codes.
 use Rattle.std.proofs.Common.{◌≡◌, ℕ, Bool, true, refl, List, is_some, ◌+◌, ◌<◌, ◌≤◌, length, ◌-◌, arith}
-use Rattle.row_lists.specs.RowFields.Candidates.{rows_with_codes, of_number, at_opcode, below, is_run}
-use Rattle.row_lists.proofs.RowFields.Cands.{below-at}
+use Rattle.instruction_parts.specs.RowFields.Candidates.{rows_with_codes, of_number, at_opcode, below, is_run}
+use Rattle.instruction_parts.proofs.RowFields.Cands.{below-at}
 use Rattle.std.specs.Prelude.{Option, None, Some}
 use Rattle.std.proofs.lemmas.Option.{slice_get_within}
 use Rattle.instruction_parts.specs.declared.row_types.RowKind.{RowKind}
 use Rattle.instruction_parts.specs.declared.row_types.RowKind.TheVariants as kind
 use Rattle.instruction_parts.specs.declared.row_types.Map.{Map}
-use Rattle.row_lists.specs.declared.Span.{Span}
-use Rattle.row_lists.specs.Cells.{map_index, cell_span, IsRunOf}
-use Rattle.row_lists.specs.Runs.{run_at, spans_fit}
+use Rattle.instruction_parts.specs.declared.row_lists.Span.{Span}
+use Rattle.instruction_parts.specs.Cells.{map_index, cell_span, IsRunOf}
+use Rattle.instruction_parts.specs.Runs.{run_at, spans_fit}
 use Rattle.opcode_rows.proofs.Blocks.{each_of_256, each_of_16, near_rows, fit_by_16, fit-by_16}
-use Rattle.row_lists.proofs.Runs.{map_index-lt, length-cell, row-of_span, run-of_span}
+use Rattle.instruction_parts.proofs.Runs.{map_index-lt, length-cell, row-of_span, run-of_span}
 use Rattle.opcode_rows.specs.Parts.{integer_rows, integer_flat, x87_rows, x87_flat, sse_rows, sse_flat, vex_rows, vex_flat}
 use Rattle.opcode_rows.specs.declared.generated_spots.TheConstants.{ROWS}
 use Rattle.opcode_rows.proofs.Woven.{woven, woven_table, by_walk}

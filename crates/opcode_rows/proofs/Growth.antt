@@ -14,7 +14,7 @@ use Rattle.row_fit.specs.Fits.{fits}
 use Rattle.row_fit.proofs.FrontLaws.{front_law}
 use Rattle.row_fit.proofs.FrontConverse.{same_state}
 use Rattle.row_fit.proofs.FrontGrows.{long_front-grows, front-extends, known-used}
-use Rattle.row_lists.proofs.RowFields.Apart.{bool_cases}
+use Rattle.instruction_parts.proofs.RowFields.Apart.{bool_cases}
 use Rattle.row_relation.specs.Spells.{IsSpelledBy, SpellsUnbounded, ReadsAs, CanGoOn, Reading, Read, TooShort, Invalid, IsReading}
 use Rattle.opcode_rows.specs.Versions.{has_state}
 

@@ -4,7 +4,7 @@ use Rattle.std.specs.Prelude.{Some, ◌==◌, nat_le}
 use Rattle.std.proofs.lemmas.Option.{slice_get_within}
 use Rattle.std.proofs.lemmas.Bool.{cases_lt, leb-true, and_parts}
 use Rattle.instruction_parts.specs.declared.row_types.Row.{Row}
-use Rattle.row_lists.proofs.RowFields.Apart.{bool_cases}
+use Rattle.instruction_parts.proofs.RowFields.Apart.{bool_cases}
 use Rattle.opcode_rows.specs.Parts.{integer_rows, integer_flat, x87_rows, x87_flat, sse_rows, sse_flat, vex_rows, vex_flat}
 use Rattle.opcode_rows.specs.declared.spot.Spot.{Spot}
 use Rattle.opcode_rows.specs.declared.spot.Part.{Part}

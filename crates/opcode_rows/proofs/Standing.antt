@@ -17,7 +17,7 @@ use Rattle.instruction_parts.specs.Front.{forbids_vex}
 use Rattle.row_fit.specs.Fits.{fits, vex_fits, is_vex_of_mode, opcode_is_kept, same_map, opcode_fits, opcode_and_modrm_fit, modrm_rule_fits, place_fits}
 use Rattle.row_fit.proofs.SameMap.{same_map-is}
 use Rattle.row_fit.proofs.FitLaws.{all_conditions}
-use Rattle.row_lists.specs.RowFields.Holds.{stands_in, is_vex, map_number, opcode_holds}
+use Rattle.instruction_parts.specs.RowFields.Holds.{stands_in, is_vex, map_number, opcode_holds}
 
 -- whether a kind is VEX, as a row says it
 pub kind-vex : (k : RowKind) → is_vex k ≡ (elim k [ kind.Legacy ↦ false | kind.Vex ↦ true ])

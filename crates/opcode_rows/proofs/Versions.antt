@@ -1,7 +1,7 @@
 -- The rows of version 1 are those that were, the rows behind them stand in the cells that version 2 fills, and no others do.
 use Rattle.std.proofs.Common.{◌≡◌, ℕ, zero, suc, ◌+◌, ◌-◌, ◌<◌, ◌≤◌, Bool, true, false, not, ◌&&◌, ◌||◌, is_some, List, [], ◌∷◌, take, slice_get, refl, ap, sym, ◌∙◌, arith, inl, inr, eqb-true, leb-true, ltb-true, nat_le, nat_lt}
-use Rattle.row_lists.specs.RowFields.Candidates.{below}
-use Rattle.row_lists.proofs.RowFields.Cands.{below-at}
+use Rattle.instruction_parts.specs.RowFields.Candidates.{below}
+use Rattle.instruction_parts.proofs.RowFields.Cands.{below-at}
 use Rattle.std.specs.Prelude.{Option, Some, None, ◌==◌, ◌↔◌, IsTrue, if◌then◌else◌}
 use Rattle.std.proofs.lemmas.Bool.{cases_lt, and_parts}
 use Rattle.instruction_parts.specs.declared.row_types.Row.{Row}
@@ -14,8 +14,8 @@ use Rattle.instruction_parts.specs.declared.row_types.Plus.TheVariants as plus
 use Rattle.instruction_parts.specs.declared.spelling.Vex.{Vex}
 use Rattle.instruction_parts.specs.declared.spelling.PrefixState.{PrefixState}
 use Rattle.instruction_parts.specs.Bytes.{state_of}
-use Rattle.row_lists.specs.RowFields.Holds.{is_vex, map_number, opcode_holds, stands_in}
-use Rattle.row_lists.specs.Cells.{stands_in_cell}
+use Rattle.instruction_parts.specs.RowFields.Holds.{is_vex, map_number, opcode_holds, stands_in}
+use Rattle.instruction_parts.specs.Cells.{stands_in_cell}
 use Rattle.version1_rows.specs.Table.{table as first_rows, names as first_names, legacy_rows as first_legacy, vex_rows as first_vex}
 use Rattle.opcode_rows.specs.Parts.{integer_rows, integer_flat, x87_rows, x87_flat, sse_rows, sse_flat, vex_rows, vex_flat}
 use Rattle.opcode_rows.specs.declared.generated_spots.TheConstants.{VERSION1_ROWS}

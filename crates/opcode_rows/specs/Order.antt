@@ -1,7 +1,7 @@
 -- The order of the table: which row of which part has a code, and how codes ascend.
 use Rattle.std.specs.Prelude.{◌≡◌, ℕ, ◌+◌, ◌*◌, Some, slice_get}
 use Rattle.instruction_parts.specs.declared.row_types.Row.{Row}
-use Rattle.row_lists.specs.RowFields.Holds.{is_vex, map_number}
+use Rattle.instruction_parts.specs.RowFields.Holds.{is_vex, map_number}
 use Rattle.opcode_rows.specs.declared.spot.Part.{Part}
 use Rattle.opcode_rows.specs.Table.{spots, table}
 

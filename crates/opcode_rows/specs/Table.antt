@@ -4,8 +4,8 @@ use Rattle.instruction_parts.specs.declared.row_types.Row.{Row}
 use Rattle.instruction_parts.specs.declared.row_types.RowKind.{RowKind}
 use Rattle.instruction_parts.specs.declared.row_types.RowKind.TheVariants as kind
 use Rattle.instruction_parts.specs.declared.row_types.Map.{Map}
-use Rattle.row_lists.specs.declared.Span.{Span}
-use Rattle.row_lists.specs.Cells.{cell_of}
+use Rattle.instruction_parts.specs.declared.row_lists.Span.{Span}
+use Rattle.instruction_parts.specs.Cells.{cell_of}
 use Rattle.opcode_rows.specs.Parts.{integer_rows, x87_rows, sse_rows, vex_rows}
 use Rattle.opcode_rows.specs.declared.spot.Part.{Part}
 use Rattle.opcode_rows.specs.declared.spot.Part.TheVariants as part

@@ -15,7 +15,7 @@ mod spot;
 pub mod unique_spelling;
 
 ghost use Rattle.std.specs.Prelude.{◌≡◌, ◌+◌, ◌<◌, ◌≤◌, ◌↔◌, length, map, slice_get, Some, IfSome, IsNone};
-ghost use Rattle.row_lists.specs.Cells.{map_index, cell_span, IsRunOf};
+ghost use Rattle.instruction_parts.specs.Cells.{map_index, cell_span, IsRunOf};
 ghost use Rattle.opcode_rows.specs.Table.{part_table, spots, table, name_of, cell, table_spans};
 
 pub use by_name::code_of;
@@ -23,9 +23,9 @@ pub use form::well_formed;
 use generated_cells::{LEGACY_SPANS, VEX_SPANS};
 use generated_spots::SPOTS;
 pub use generated_spots::{ROWS, VERSION1_ROWS};
+use instruction_parts::row_lists::{Span, span_in};
 use instruction_parts::row_types::{Map, Row, RowKind};
 use names::{early_name, later_name};
-use row_lists::{Span, span_in};
 use spot::{Part, Spot};
 use std::sync::ledger::Ledger;
 use step_count::Steps;

@@ -1,7 +1,7 @@
 -- The spans say where the rows of each cell lie.
 use Rattle.instruction_parts.specs.declared.row_types.RowKind.TheVariants.{Legacy}
-use Rattle.row_lists.specs.Spans.{AreCellSpansOf}
-use Rattle.row_lists.proofs.Spans.{spans-of_fit}
+use Rattle.instruction_parts.specs.Spans.{AreCellSpansOf}
+use Rattle.instruction_parts.proofs.Spans.{spans-of_fit}
 use Rattle.rows_integer.specs.Table.{table, spans}
 use Rattle.rows_integer.proofs.TableFacts.{are_runs}
 

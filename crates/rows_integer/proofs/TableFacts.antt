@@ -1,9 +1,9 @@
 -- What is computed of the table.
 use Rattle.std.proofs.Common.{◌≡◌, true, refl, length}
-use Rattle.row_lists.specs.RowFields.Candidates.{rows_with_codes, of_number, at_opcode, below, is_run}
+use Rattle.instruction_parts.specs.RowFields.Candidates.{rows_with_codes, of_number, at_opcode, below, is_run}
 use Rattle.instruction_parts.specs.declared.row_types.RowKind.TheVariants.{Legacy}
-use Rattle.row_lists.specs.Cells.{cell_span}
-use Rattle.row_lists.specs.Runs.{run_at, line_runs, spans_fit}
+use Rattle.instruction_parts.specs.Cells.{cell_span}
+use Rattle.instruction_parts.specs.Runs.{run_at, line_runs, spans_fit}
 use Rattle.rows_integer.specs.declared.generated_table.TheConstants.{ROWS}
 use Rattle.rows_integer.specs.Table.{flat_rows, table, spans}
 

@@ -1,13 +1,13 @@
 -- No two rows of a cell hold on the same fields.
 use Rattle.std.proofs.Common.{◌≡◌, true, refl, ◌<◌}
-use Rattle.row_lists.specs.RowFields.Candidates.{rows_with_codes, of_number, at_opcode, cands, below}
+use Rattle.instruction_parts.specs.RowFields.Candidates.{rows_with_codes, of_number, at_opcode, cands, below}
 use Rattle.x86_values.specs.declared.Bits.{Bits}
 use Rattle.instruction_parts.specs.Sizes.{exists_in}
-use Rattle.row_lists.specs.declared.row_fields.Fields.{Fields}
-use Rattle.row_lists.specs.RowFields.Holds.{RowsAreApart, prefix_holds, w_holds, rex_b_holds}
-use Rattle.row_lists.proofs.RowFields.Holding.{apart}
-use Rattle.row_lists.specs.RowFields.Masks.{nth, allows, meets, two, three, four, reg_mask, rm_mask, marked_size, size_mask, masks}
-use Rattle.row_lists.proofs.RowFields.Apart.{disjoint, mask_apart, masks_apart, apart_from, all_apart, cell_apart, kind_apart, table_apart, at_most_one}
+use Rattle.instruction_parts.specs.declared.row_fields.Fields.{Fields}
+use Rattle.instruction_parts.specs.RowFields.Holds.{RowsAreApart, prefix_holds, w_holds, rex_b_holds}
+use Rattle.instruction_parts.proofs.RowFields.Holding.{apart}
+use Rattle.instruction_parts.specs.RowFields.Masks.{nth, allows, meets, two, three, four, reg_mask, rm_mask, marked_size, size_mask, masks}
+use Rattle.instruction_parts.proofs.RowFields.Apart.{disjoint, mask_apart, masks_apart, apart_from, all_apart, cell_apart, kind_apart, table_apart, at_most_one}
 use Rattle.rows_sse.specs.Table.{flat_rows, table}
 
 is_apart : table_apart table ≡ true

@@ -1,9 +1,9 @@
 -- The MMX and SSE rows as one list, and where those of each cell lie.
 use Rattle.std.specs.Prelude.{List}
 use Rattle.instruction_parts.specs.declared.row_types.Row.{Row}
-use Rattle.row_lists.specs.declared.FlatRow.{FlatRow}
-use Rattle.row_lists.specs.declared.Span.{Span}
-use Rattle.row_lists.specs.Flat.{rows_of}
+use Rattle.instruction_parts.specs.declared.row_lists.FlatRow.{FlatRow}
+use Rattle.instruction_parts.specs.declared.row_lists.Span.{Span}
+use Rattle.instruction_parts.specs.Flat.{rows_of}
 use Rattle.rows_sse.specs.declared.generated_table.TheConstants.{FLAT_ROWS, SPANS}
 
 -- the rows as they lie in the table of constants

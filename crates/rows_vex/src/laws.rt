@@ -1,8 +1,8 @@
 //! What holds of these rows.
 ghost use Rattle.std.specs.Prelude.{◌<◌};
 ghost use Rattle.x86_values.specs.declared.Bits.{Bits};
-ghost use Rattle.row_lists.specs.declared.row_fields.Fields.{Fields};
-ghost use Rattle.row_lists.specs.RowFields.Holds.{RowsAreApart};
+ghost use Rattle.instruction_parts.specs.declared.row_fields.Fields.{Fields};
+ghost use Rattle.instruction_parts.specs.RowFields.Holds.{RowsAreApart};
 ghost use Rattle.rows_vex.specs.Table.{table};
 
 /// In each mode and on all values of the nine fields, two rows whose conditions hold are one row.

@@ -6,14 +6,14 @@ pub mod laws;
 
 ghost use Rattle.instruction_parts.specs.declared.row_types.RowKind.TheVariants.{Vex};
 ghost use Rattle.std.specs.Prelude.{◌≡◌, ◌<◌, length, slice_get, Some};
-ghost use Rattle.row_lists.specs.Cells.{cell_of};
-ghost use Rattle.row_lists.specs.Lists.{IsListOf};
+ghost use Rattle.instruction_parts.specs.Cells.{cell_of};
+ghost use Rattle.instruction_parts.specs.Lists.{IsListOf};
 ghost use Rattle.rows_vex.specs.Table.{table, spans};
 
 pub use generated_table::ROWS;
 use generated_table::{FLAT_ROWS, SPANS};
+use instruction_parts::row_lists::RowList;
 use instruction_parts::row_types::{Map, Row, RowKind};
-use row_lists::RowList;
 
 /// The rows as one list, by index and by cell.
 #[inline]

@@ -1,8 +1,8 @@
 -- Version 1 of the table: its rows and their names, by code.
 use Rattle.std.specs.Prelude.{ℕ, List, ◌++◌, map}
 use Rattle.instruction_parts.specs.declared.row_types.Row.{Row}
-use Rattle.row_lists.specs.declared.FlatRow.{FlatRow}
-use Rattle.row_lists.specs.Flat.{rows_of}
+use Rattle.instruction_parts.specs.declared.row_lists.FlatRow.{FlatRow}
+use Rattle.instruction_parts.specs.Flat.{rows_of}
 use Rattle.version1_rows.specs.declared.table.TheConstants.{LEGACY_ROWS, VEX_ROWS}
 use Rattle.version1_rows.specs.declared.names.TheConstants.{NAMES}
 

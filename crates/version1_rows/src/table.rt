@@ -1,8 +1,9 @@
 //! The rows by code, as version 1 of the table had them. No program writes this file anew, and no edit of it is right: see the crate's page.
+use instruction_parts::row_lists::FlatRow;
 use instruction_parts::row_types::{
     Class, LBit, Map, Marks, ModRmRule, ModeMask, OpKind, Place, Plus, RowKind, Size, WBit,
 };
-use row_lists::{FlatRow, rows};
+use instruction_parts::rows;
 
 /// The legacy rows. A line has the map, class, opcode byte and what is added to it; ModRM and its limit; size, W, L and modes; operands; marks.
 pub static LEGACY_ROWS: [FlatRow; 1396] = rows! {

@@ -23,7 +23,7 @@ use borrow.Author.Tests.{ltb-true}
 use Rattle.row_fit.specs.Sound.{sound, kind_is_proper, legacy_is_proper, vex_is_proper, is_no_w, is_no_l, is_size_of_vex, rule_in_range}
 use Rattle.row_fit.proofs.FitLaws.{all_conditions, modrm_range}
 use Rattle.row_fit.proofs.SoundLaws.{sound_conditions}
-use Rattle.row_lists.specs.RowFields.Holds.{holds, at_90, adds_register, prefix_of, prefix_holds, class_allows, rex_b_at_90, rex_b_holds, byte_of, size_allows, size_holds, w_as_size, w_allows, w_holds, l_holds}
+use Rattle.instruction_parts.specs.RowFields.Holds.{holds, at_90, adds_register, prefix_of, prefix_holds, class_allows, rex_b_at_90, rex_b_holds, byte_of, size_allows, size_holds, w_as_size, w_allows, w_holds, l_holds}
 use Rattle.opcode_rows.specs.UniqueSpelling.FieldsOf.{fields_of, repeat_of, repeat_of_pp, size66_of, w_of, l_of}
 use Rattle.opcode_rows.proofs.Standing.{VexSays, vex-says, stands, opcode-parts}
 use Rattle.opcode_rows.proofs.UniqueSpelling.Parts.{nop-byte, legacy-class, vex-class, nf3, rex-64, size-allowed, size-of_vex, w-as_size, w-of_legacy, w-of_vex, l-of_legacy, l-of_vex}

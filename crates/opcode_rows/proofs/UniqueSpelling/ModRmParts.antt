@@ -12,7 +12,7 @@ use Rattle.instruction_parts.specs.declared.spelling.ModRm.{ModRm}
 use Rattle.instruction_parts.specs.Bytes.{modrm_byte}
 use Rattle.row_fit.specs.Fits.{modrm_rule_fits, place_allows, modrm_in_range}
 use Rattle.row_fit.specs.Sound.{rule_in_range}
-use Rattle.row_lists.specs.RowFields.Holds.{byte_holds, place_holds, reg_holds, rm_holds}
+use Rattle.instruction_parts.specs.RowFields.Holds.{byte_holds, place_holds, reg_holds, rm_holds}
 use borrow.Author.Tests.{ltb-true}
 
 -- the four conditions on a byte, which is there or not

@@ -23,7 +23,7 @@ use Rattle.instruction_parts.specs.declared.spelling.PrefixState.{PrefixState}
 use Rattle.instruction_parts.specs.Counting.{is_64, rex_bit, counting_rex}
 use Rattle.row_fit.specs.Fits.{is_map_one, is_no_repeat, is_repeat_f3, is_repeat_f2, legacy_class_fits, vex_class_fits, size_fits, takes_w_as_size, l_fits}
 use Rattle.row_fit.specs.Sound.{is_no_w, is_no_l, is_size_of_vex}
-use Rattle.row_lists.specs.RowFields.Holds.{is_vex, map_number, prefix_of, class_allows, size_allows, w_as_size, w_allows, l_holds}
+use Rattle.instruction_parts.specs.RowFields.Holds.{is_vex, map_number, prefix_of, class_allows, size_allows, w_as_size, w_allows, l_holds}
 use Rattle.opcode_rows.specs.UniqueSpelling.FieldsOf.{repeat_of_pp}
 
 -- ---- kind and map

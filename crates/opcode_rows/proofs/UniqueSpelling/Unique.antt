@@ -12,8 +12,8 @@ use Rattle.row_fit.proofs.FrontLaws.{front_law}
 use Rattle.row_fit.proofs.FrontConverse.{same_state}
 use Rattle.row_fit.proofs.TailLaws.{cancel_front}
 use Rattle.row_fit.proofs.OneSpelling.{one_spelling}
-use Rattle.row_lists.specs.declared.row_fields.Fields.{Fields}
-use Rattle.row_lists.specs.RowFields.Holds.{holds}
+use Rattle.instruction_parts.specs.declared.row_fields.Fields.{Fields}
+use Rattle.instruction_parts.specs.RowFields.Holds.{holds}
 use Rattle.opcode_rows.specs.Table.{table}
 use Rattle.opcode_rows.proofs.Sound.{sound-row}
 use Rattle.opcode_rows.proofs.Apart.{rows_apart}

@@ -5,7 +5,7 @@ use Rattle.x86_values.specs.declared.Rep.TheVariants.{None as NoRep, F2 as RepF2
 use Rattle.instruction_parts.specs.declared.spelling.Vex.{Vex}
 use Rattle.instruction_parts.specs.declared.spelling.PrefixState.{PrefixState}
 use Rattle.instruction_parts.specs.Counting.{rex_bit}
-use Rattle.row_lists.specs.declared.row_fields.Fields.{Fields}
+use Rattle.instruction_parts.specs.declared.row_fields.Fields.{Fields}
 
 -- the byte that a list begins with
 abbrev pub first_byte : List ℕ → Option ℕ

@@ -5,7 +5,7 @@ ghost use Rattle.instruction_parts.specs.declared.row_types.Row.{Row};
 ghost use Rattle.instruction_parts.specs.declared.spelling.Spelling.{Spelling};
 ghost use Rattle.instruction_parts.specs.Bytes.{bytes_of, state_of, tail_bytes};
 ghost use Rattle.row_fit.specs.Fits.{fits};
-ghost use Rattle.row_lists.specs.RowFields.Holds.{holds};
+ghost use Rattle.instruction_parts.specs.RowFields.Holds.{holds};
 ghost use Rattle.opcode_rows.specs.Table.{table};
 ghost use Rattle.opcode_rows.specs.UniqueSpelling.FieldsOf.{fields_of, first_byte};
 

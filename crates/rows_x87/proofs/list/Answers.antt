@@ -1,6 +1,6 @@
 use Rattle.std.proofs.Common.{refl}
 use Rattle.instruction_parts.specs.declared.row_types.RowKind.TheVariants.{Legacy}
-use Rattle.row_lists.proofs.Lists.{list-of}
+use Rattle.instruction_parts.proofs.Lists.{list-of}
 use Rattle.rows_x87.specs.declared.generated_table.TheConstants.{ROWS}
 use Rattle.rows_x87.specs.Table.{flat_rows, table, spans}
 use Rattle.rows_x87.proofs.Spans.{are_spans}

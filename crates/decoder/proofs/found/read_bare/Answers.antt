@@ -2,7 +2,7 @@ use Rattle.std.proofs.Common.{◌≡◌, ◌+◌, ℕ, true, refl, ap, sym, ◌�
 use Rattle.std.specs.Prelude.{Option, None, Some, IfSome}
 use Rattle.instruction_parts.specs.declared.row_types.Row.{Row}
 use Rattle.row_fit.specs.Fits.{immediates_bytes}
-use Rattle.row_lists.specs.RowFields.Holds.{holds}
+use Rattle.instruction_parts.specs.RowFields.Holds.{holds}
 use Rattle.row_relation.specs.RowReading.{RowReads}
 use Rattle.opcode_rows.proofs.Sound.{sound-row}
 use Rattle.opcode_rows.specs.UniqueSpelling.FieldsOf.{fields_of, first_byte}

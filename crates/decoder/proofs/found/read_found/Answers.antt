@@ -5,8 +5,8 @@ use Rattle.x86_values.specs.declared.Bits.{Bits}
 use Rattle.prefixes.specs.Answer.{mode_of}
 use Rattle.row_relation.specs.RowReading.{RowReads}
 use Rattle.instruction_parts.specs.declared.row_types.Row.{Row}
-use Rattle.row_lists.specs.declared.row_fields.Fields.{Fields}
-use Rattle.row_lists.specs.RowFields.Holds.{holds, HoldsNowhere, IsOnlyRow}
+use Rattle.instruction_parts.specs.declared.row_fields.Fields.{Fields}
+use Rattle.instruction_parts.specs.RowFields.Holds.{holds, HoldsNowhere, IsOnlyRow}
 use Rattle.opcode_rows.specs.Table.{table}
 use Rattle.opcode_rows.proofs.JoinFacts.{length-table}
 use Rattle.opcode_rows.proofs.Sound.{sound-row}

@@ -1,4 +1,4 @@
-use Rattle.row_lists.specs.RowFields.FieldNumbers.{plain_size}
+use Rattle.instruction_parts.specs.RowFields.FieldNumbers.{plain_size}
 use Rattle.std.proofs.Common.{arith}
 use Rattle.handler_tables.proofs.splits.plain_size.Goals as goal
 

@@ -1,9 +1,9 @@
 use Rattle.std.proofs.Common.{◌≡◌, ◌<◌, ◌≤◌, ◌+◌, ◌-◌, ℕ, suc, arith, lit<, sym, refl, ◌∙◌, true, List, length, slice_get, Some}
 use Rattle.std.proofs.lemmas.Option.{slice_get_within}
 use Rattle.x86_values.specs.declared.Bits.{Bits}
-use Rattle.row_lists.specs.declared.row_fields.Fields.{Fields}
-use Rattle.row_lists.proofs.RowFields.Apart.{map_number-lt}
-use Rattle.row_lists.proofs.RowFields.Holding.{nowhere, only_row}
+use Rattle.instruction_parts.specs.declared.row_fields.Fields.{Fields}
+use Rattle.instruction_parts.proofs.RowFields.Apart.{map_number-lt}
+use Rattle.instruction_parts.proofs.RowFields.Holding.{nowhere, only_row}
 use Rattle.opcode_rows.specs.Table.{table}
 use Rattle.handler_tables.specs.Nodes.{nodes2, nodes3, nodes4, nodes8, splits2, splits3, splits4, splits8}
 use Rattle.handler_tables.specs.Splits.{width_of, field_at}
