@@ -22,7 +22,7 @@
  *
  * Threads: the library has no global state and takes no locks, so any number of threads may call it at once.
  *
- * Memory: feddurzai_move, feddurzai_move_outside, feddurzai_move_blocks, feddurzai_step, feddurzai_step_call,
+ * Memory: feddurzai_move, feddurzai_move_outside, feddurzai_move_unlisted, feddurzai_move_blocks, feddurzai_step, feddurzai_step_call,
  * feddurzai_flow, feddurzai_flow_from, feddurzai_flow_unlisted, feddurzai_look, feddurzai_format, feddurzai_format_code and all
  * feddurzai_detour functions call malloc, realloc and free, and free all that they allocate before they return. All
  * other functions allocate nothing and may be called from a signal handler or from a hook of malloc.
@@ -64,7 +64,7 @@ uint32_t feddurzai_version(void);
  * Statuses. A function that returns int32_t returns 0 or more on success and one of these on refusal.
  *
  * After a refusal the function has written nothing, with one exception: feddurzai_move, feddurzai_move_outside,
- * feddurzai_move_blocks, feddurzai_step, feddurzai_step_call, feddurzai_step_unlisted, feddurzai_detour,
+ * feddurzai_move_unlisted, feddurzai_move_blocks, feddurzai_step, feddurzai_step_call, feddurzai_step_unlisted, feddurzai_detour,
  * feddurzai_detour_unlisted, feddurzai_detour_with, feddurzai_detour_endbr and feddurzai_detour_padding always write
  * their report, unless they return FEDDURZAI_NULL.
  *
@@ -1120,7 +1120,7 @@ typedef struct feddurzai_moved {
     uint8_t form;       /* FEDDURZAI_ITSELF .. */
 } feddurzai_moved;
 
-/* What feddurzai_move and feddurzai_move_outside report. Fields that do not apply are 0. */
+/* What feddurzai_move, feddurzai_move_outside and feddurzai_move_unlisted report. Fields that do not apply are 0. */
 typedef struct feddurzai_move_report {
     uint64_t bytes;     /* the size of the moved code with its slots */
     uint64_t count;     /* the number of instructions */
@@ -1176,6 +1176,24 @@ int32_t feddurzai_move(uint32_t bits, uint64_t old_ip, const uint8_t *bytes, siz
  *     // said is 0, and out begins with e9 7b ff ff ff, jmp 0x1000
  */
 int32_t feddurzai_move_outside(uint32_t bits, uint64_t old_ip, const uint8_t *bytes, size_t len, uint64_t new_ip,
+    uint8_t *out, size_t room, feddurzai_moved *map, size_t map_room, feddurzai_move_report *report);
+
+/*
+ * Moves code as feddurzai_move does, with the instructions that the opcode table leaves out and feddurzai_measure
+ * measures. Such an instruction is moved whole: its bytes, except that its relative number is set so that it refers to
+ * the same address, or to the moved instruction that began there. Its form is FEDDURZAI_NEAR_FORM. Arguments, report and
+ * return value are those of feddurzai_move.
+ *
+ * Returns 0, or FEDDURZAI_BAD_MODE, _TOO_LARGE, _INVALID or _TOO_SHORT (at report->at starts neither an instruction of
+ * the table nor one that is measured; an XBEGIN with a 16-bit distance outside 16-bit mode counts as none), _TOO_MANY,
+ * _WRAPS (the old end, or else the new one), _TOO_FAR, _NO_ROOM. _NO_MEMORY may replace any of those after _TOO_LARGE.
+ *
+ *     // vpxord zmm0, zmm0, [rip+0x10] refers to 0x101a, also at 0x2000; the jump to it follows it
+ *     const uint8_t evex_loop[] = {0x62, 0xf1, 0x7d, 0x48, 0xef, 0x05, 0x10, 0, 0, 0, 0xeb, 0xf4};
+ *     said = feddurzai_move_unlisted(64, 0x1000, evex_loop, sizeof evex_loop, 0x2000, out, 64, map, 4, &report);
+ *     // said is 0, and out begins with 62 f1 7d 48 ef 05 10 f0 ff ff eb f4
+ */
+int32_t feddurzai_move_unlisted(uint32_t bits, uint64_t old_ip, const uint8_t *bytes, size_t len, uint64_t new_ip,
     uint8_t *out, size_t room, feddurzai_moved *map, size_t map_room, feddurzai_move_report *report);
 
 /* A block of code that feddurzai_move_blocks moves. */
@@ -2015,6 +2033,16 @@ static inline int32_t feddurzai_checked_move_outside(uint32_t bits, uint64_t old
     return feddurzai_move_outside(bits, old_ip, bytes, len, new_ip, out, room, map, map_room, report);
 }
 
+static inline int32_t feddurzai_checked_move_unlisted(uint32_t bits, uint64_t old_ip, const uint8_t *bytes, size_t len,
+    uint64_t new_ip, uint8_t *out, size_t room, feddurzai_moved *map, size_t map_room, feddurzai_move_report *report)
+{
+    if (feddurzai_is_null(bytes, len) || feddurzai_is_null(out, room) || feddurzai_is_null(map, map_room))
+        return FEDDURZAI_NULL;
+    if (report == NULL)
+        return FEDDURZAI_NULL;
+    return feddurzai_move_unlisted(bits, old_ip, bytes, len, new_ip, out, room, map, map_room, report);
+}
+
 static inline int32_t feddurzai_checked_move_blocks(uint32_t bits, const uint8_t *bytes, size_t len,
     const feddurzai_block *blocks, size_t count, uint8_t *out, size_t room, feddurzai_placed_block *places,
     size_t places_room, feddurzai_moved *map, size_t map_room, feddurzai_blocks_report *report)
@@ -2226,6 +2254,7 @@ static inline int32_t feddurzai_checked_detour_padding(uint32_t bits, uint64_t i
 #define feddurzai_code_of feddurzai_checked_code_of
 #define feddurzai_move feddurzai_checked_move
 #define feddurzai_move_outside feddurzai_checked_move_outside
+#define feddurzai_move_unlisted feddurzai_checked_move_unlisted
 #define feddurzai_move_blocks feddurzai_checked_move_blocks
 #define feddurzai_region_reserve feddurzai_checked_region_reserve
 #define feddurzai_region_release feddurzai_checked_region_release

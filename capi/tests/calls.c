@@ -952,6 +952,43 @@ static void check_kept_targets(void)
     free(out);
 }
 
+/* code with an instruction that the opcode table leaves out */
+static void check_unlisted_moves(void)
+{
+    /* vpxord zmm0, zmm0, [rip+0x10], and jnz back to it; then the same with a far je in place of the jump */
+    static const uint8_t loop[] = {0x62, 0xf1, 0x7d, 0x48, 0xef, 0x05, 0x10, 0, 0, 0, 0x75, 0xf4};
+    static const uint8_t leaves[] = {0x62, 0xf1, 0x7d, 0x48, 0xef, 0xc0, 0x74, 0x10};
+    uint8_t *out = malloc(32), *large = calloc(FEDDURZAI_MAX_CODE + 1, 1);
+    feddurzai_moved map[2];
+    feddurzai_move_report report, *r = &report;
+    CHECK(feddurzai_move(64, 0x1000, loop, sizeof loop, 0x2000, out, 32, map, 2, r), FEDDURZAI_INVALID);
+    memset(out, 0xaa, 32);
+    CHECK(feddurzai_move_unlisted(64, 0x1000, loop, sizeof loop, 0x2000, out, 11, map, 2, r), FEDDURZAI_NO_ROOM);
+    CHECK(feddurzai_move_unlisted(64, 0x1000, loop, sizeof loop, 0x2000, out, 32, map, 1, r), FEDDURZAI_NO_ROOM);
+    CHECK(report.bytes == 12 && report.count == 2 && report.code_bytes == 12 && report.slots_at == 12, 1);
+    CHECK(is_untouched(out, 32), 1);
+    CHECK(feddurzai_move_unlisted(64, 0x1000, loop, sizeof loop, 0x2000, out, 32, map, 2, r), 0);
+    CHECK(memcmp(out, "\x62\xf1\x7d\x48\xef\x05\x10\xf0\xff\xff\x75\xf4\xaa", 13), 0);
+    CHECK(map[0].old_ip == 0x1000 && map[0].new_ip == 0x2000 && map[0].len == 10 && map[0].form == FEDDURZAI_NEAR_FORM, 1);
+    CHECK(map[1].old_ip == 0x100a && map[1].new_ip == 0x200a && map[1].len == 2 && map[1].form == FEDDURZAI_SHORT, 1);
+    /* out of reach the je gets a slot behind 6 + 8 bytes, at 14 rounded to 16 */
+    CHECK(feddurzai_move_unlisted(64, 0x1000, leaves, sizeof leaves, 0x7fff00000000, out, 32, map, 2, r), 0);
+    CHECK(report.bytes == 24 && report.count == 2 && report.code_bytes == 14 && report.slots_at == 16, 1);
+    CHECK(memcmp(out, leaves, 6), 0);
+    CHECK(feddurzai_move_unlisted(64, 0x1000, loop, sizeof loop, 0x7fff00000000, out, 32, map, 2, r), FEDDURZAI_TOO_FAR);
+    CHECK(report.at == 0 && report.address == 0x101a, 1);
+    CHECK(feddurzai_move_unlisted(64, 0x1000, loop, 11, 0x2000, out, 32, map, 2, r), FEDDURZAI_TOO_SHORT);
+    CHECK(report.at, 10);
+    CHECK(feddurzai_move_unlisted(64, 0xfffffffffffffffe, loop, sizeof loop, 0x2000, out, 32, map, 2, r), FEDDURZAI_WRAPS);
+    CHECK(report.address, 10);
+    CHECK(feddurzai_move_unlisted(64, 0, large, FEDDURZAI_MAX_CODE + 1, 0, NULL, 0, NULL, 0, r), FEDDURZAI_TOO_LARGE);
+    CHECK(feddurzai_move_unlisted(17, 0, NULL, 0, 0, NULL, 0, NULL, 0, r), FEDDURZAI_BAD_MODE);
+    CHECK(feddurzai_move_unlisted(64, 0, NULL, 0, 0x1000, NULL, 0, NULL, 0, r), 0);
+    CHECK(report.bytes == 0 && report.count == 0 && report.code_bytes == 0 && report.slots_at == 0, 1);
+    free(out);
+    free(large);
+}
+
 /* what a step of one instruction at 0x1000 is at a place: the bytes, where the instruction has happened, and where its jump back is */
 static void check_step(uint32_t bits, const char *bytes, size_t len, uint64_t place, const char *want, size_t want_len, uint64_t done_at,
     uint64_t back_at)
@@ -1838,6 +1875,7 @@ int main(void)
     check_register_names();
     check_jumps();
     check_kept_targets();
+    check_unlisted_moves();
     check_shortest_displacements();
     check_blocks();
     check_region();

@@ -454,6 +454,11 @@ def moved_and_followed():
     check(f.move(64, 0, b"", 0x1000)[:2], (b"", []))
     # a loop on itself: it goes along, or back to where it was
     check([call(64, 0x1000, code("ebfe"), 0x1080).code.hex() for call in (f.move, f.move_outside)], ["ebfe", "e97bffffff"])
+    # vpxord zmm0, zmm0, [rip+0x10], and a jump back to it
+    moved = f.move(64, 0x1000, code("62f17d48ef0510000000 ebf4"), 0x2000, unlisted=True)
+    check(moved.code.hex(), "62f17d48ef0510f0ffffebf4")
+    check(moved.places, [f.Moved(0x1000, 0x2000, 10, f.Form.NEAR), f.Moved(0x100A, 0x200A, 2, f.Form.SHORT)])
+    refused(f.Reason.INVALID, f.move, 64, 0x1000, code("62f17d48ef0510000000 ebf4"), 0x2000, kind=f.InvalidCode)
     found = f.flow(64, 0, code("740190c3"))
     check(found, [(0, 0, f.Flow.CONDITIONAL), (2, 2, f.Flow.NEXT), (3, 3, f.Flow.RETURN)])
     check(f.flow(64, 0, code("740190c3"), [0]), found)

@@ -235,6 +235,12 @@ static void moved(void)
     // said is 0, and out begins with e9 7b ff ff ff, jmp 0x1000
     CHECK(said, 0);
     CHECK_BYTES(out, "\xe9\x7b\xff\xff\xff");
+    // vpxord zmm0, zmm0, [rip+0x10] refers to 0x101a, also at 0x2000; the jump to it follows it
+    const uint8_t evex_loop[] = {0x62, 0xf1, 0x7d, 0x48, 0xef, 0x05, 0x10, 0, 0, 0, 0xeb, 0xf4};
+    said = feddurzai_move_unlisted(64, 0x1000, evex_loop, sizeof evex_loop, 0x2000, out, 64, map, 4, &report);
+    // said is 0, and out begins with 62 f1 7d 48 ef 05 10 f0 ff ff eb f4
+    CHECK(said, 0);
+    CHECK_BYTES(out, "\x62\xf1\x7d\x48\xef\x05\x10\xf0\xff\xff\xeb\xf4");
 }
 
 static void allocated(void)

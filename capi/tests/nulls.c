@@ -182,6 +182,11 @@ static void check_nulls(void)
     CHECK(feddurzai_move_outside(64, 0x1000, code, 4, 0x2000, out, sizeof out, NULL, 3, &report), FEDDURZAI_NULL);
     CHECK(feddurzai_move_outside(64, 0x1000, code, 4, 0x2000, out, sizeof out, map, 3, NULL), FEDDURZAI_NULL);
 
+    CHECK(feddurzai_move_unlisted(64, 0x1000, NULL, 4, 0x2000, out, sizeof out, map, 3, &report), FEDDURZAI_NULL);
+    CHECK(feddurzai_move_unlisted(64, 0x1000, code, 4, 0x2000, NULL, sizeof out, map, 3, &report), FEDDURZAI_NULL);
+    CHECK(feddurzai_move_unlisted(64, 0x1000, code, 4, 0x2000, out, sizeof out, NULL, 3, &report), FEDDURZAI_NULL);
+    CHECK(feddurzai_move_unlisted(64, 0x1000, code, 4, 0x2000, out, sizeof out, map, 3, NULL), FEDDURZAI_NULL);
+
     CHECK(feddurzai_move_blocks(64, NULL, 4, whole, 1, out, sizeof out, places, 2, map, 3, &blocks_report), FEDDURZAI_NULL);
     CHECK(feddurzai_move_blocks(64, code, 4, NULL, 1, out, sizeof out, places, 2, map, 3, &blocks_report), FEDDURZAI_NULL);
     CHECK(feddurzai_move_blocks(64, code, 4, whole, 1, NULL, sizeof out, places, 2, map, 3, &blocks_report), FEDDURZAI_NULL);
@@ -433,6 +438,7 @@ static void check_zeros(void)
     CHECK(feddurzai_region_fill(&region, live, 2, 0, NULL, 0, out, 0), FEDDURZAI_BAD_REGION);
     CHECK(feddurzai_step(0, 0, NULL, 0, 0, NULL, 0, &step), FEDDURZAI_BAD_MODE);
     CHECK(feddurzai_step_unlisted(0, 0, NULL, 0, 0, NULL, 0, &step), FEDDURZAI_BAD_MODE);
+    CHECK(feddurzai_move_unlisted(0, 0, NULL, 0, 0, NULL, 0, NULL, 0, &report), FEDDURZAI_BAD_MODE);
     CHECK(step.bytes == 0 && step.back_at == 0 && step.address == 0 && step.len == 0 && step.done_at == 0, 1);
     CHECK(feddurzai_step_len(0, 0, NULL, 0, 0), FEDDURZAI_BAD_MODE);
     CHECK(feddurzai_step_call(0, 0, NULL, 0, 0, NULL, 0, &step), FEDDURZAI_BAD_MODE);

@@ -183,6 +183,7 @@ static void works(void)
     CALL(feddurzai_move, 64, 0x401000, P(code), SIZE, 0x7fff00000000, P(out), sizeof out, P(map), 64, P(&moved));
     CALL(feddurzai_move, 64, 0x401000, P(code), SIZE, 0x401100, P(out), sizeof out, P(map), 64, P(&moved));
     CALL(feddurzai_move_outside, 64, 0x401000, P(code), SIZE, 0x501000, P(out), sizeof out, P(map), 64, P(&moved));
+    CALL(feddurzai_move_unlisted, 64, 0x401000, P(code), SIZE, 0x501000, P(out), sizeof out, P(map), 64, P(&moved));
     CALL(feddurzai_move_blocks, 64, P(code), SIZE, P(blocks), 2, P(out), sizeof out, P(places), 2, P(map), 64, P(&placed));
     CALL(feddurzai_flow, 64, 0x401000, P(code), SIZE, P(starts), 128, P(leaders), 128);
     CALL(feddurzai_flow_from, 64, 0x401000, P(code), SIZE, P(entries), 2, P(starts), 128, P(leaders), 128, P(kinds), 128);

@@ -391,12 +391,15 @@ def _moved_by(call: Callable[..., int], *arguments: Union[int, bytes]) -> MovedC
     return MovedCode(code.raw, moved, report)
 
 
-def move(bits: int, old_ip: int, code: Buffer, new_ip: int) -> MovedCode:
+def move(bits: int, old_ip: int, code: Buffer, new_ip: int, *, unlisted: bool = False) -> MovedCode:
     """Moves code from address `old_ip` to address `new_ip`. Near branches and operands at RIP or EIP keep their targets, and a target that
     is the start of a moved instruction is followed to its new address. Branches grow as far as the least closed layout requires.
 
     Control leaves the last instruction at offset `report.code_bytes`; slots begin at `report.slots_at`. There is space for a jump back if
     there are no slots. Because targets are followed, a loop of one instruction stays a loop at the new address.
+
+    With `unlisted`, an instruction that the opcode table leaves out and `measure` measures is moved too. Its bytes stay, except that its number
+    that is relative to the address after it is set so that it refers to the same address, or to the moved instruction that began there.
 
     Raises Refusal with a report and BAD_MODE, TOO_LARGE (more than MAX_CODE bytes), WRAPS, TOO_MANY, TOO_FAR or NO_MEMORY, and InvalidCode or
     TooShort if the bytes are not instructions from end to end.
@@ -404,10 +407,13 @@ def move(bits: int, old_ip: int, code: Buffer, new_ip: int) -> MovedCode:
     >>> moved = move(64, 0x1000, bytes.fromhex("e80b000000 c3"), 0x2000)
     >>> moved.code.hex(), [hex(place.new_ip) for place in moved.places]
     ('e80bf0ffffc3', ['0x2000', '0x2005'])
+    >>> move(64, 0x1000, bytes.fromhex("62f17d48ef0510000000 ebf4"), 0x2000, unlisted=True).code.hex()
+    '62f17d48ef0510f0ffffebf4'
     """
     code = _checks.code_bytes("code", code)
     bits, old_ip = _checks.number("bits", bits, _checks.U32), _checks.number("old_ip", old_ip)
-    return _moved_by(_native.move, bits, old_ip, code, len(code), _checks.number("new_ip", new_ip))
+    call = _native.move_unlisted if unlisted else _native.move
+    return _moved_by(call, bits, old_ip, code, len(code), _checks.number("new_ip", new_ip))
 
 
 def move_outside(bits: int, old_ip: int, code: Buffer, new_ip: int) -> MovedCode:

@@ -230,7 +230,14 @@ impl Detour {
     /// # Errors
     ///
     /// Those of [`Detour::new`].
-    pub fn unlisted(bitness: u32, ip: u64, code: &[u8], to: u64, place: u64, start: DetourStart) -> Result<Detour, Error> {
+    pub fn unlisted(
+        bitness: u32,
+        ip: u64,
+        code: &[u8],
+        to: u64,
+        place: u64,
+        start: DetourStart,
+    ) -> Result<Detour, Error> {
         let library = Library::get()?;
         Detour::by(|patch, trampoline, report| {
             library.detour_unlisted(bitness, ip, code, to, place, start as u32, patch, trampoline, report)

@@ -30,8 +30,8 @@
 //! # Numbers
 //!
 //! A bitness is 16, 32 or 64. Addresses are 64-bit, and taken modulo 2^bitness. No call panics: a number out of range is
-//! an [`Error`]. `malloc` is called by [`move_code`], [`move_code_outside`], [`move_blocks`], [`BlockEncoder`],
-//! [`step()`], [`flow_graph`], [`basic_blocks`], [`Detour`] and [`look`].
+//! an [`Error`]. `malloc` is called by [`move_code`], [`move_code_outside`], [`move_code_unlisted`], [`move_blocks`],
+//! [`BlockEncoder`], [`step()`], [`flow_graph`], [`basic_blocks`], [`Detour`] and [`look`].
 //!
 //! # Linking
 //!
@@ -105,8 +105,8 @@ pub use instruction::{EncodedBytes, Instruction};
 pub use mnemonic::Mnemonic;
 #[cfg(feature = "alloc")]
 pub use moving::{
-    move_blocks, move_code, move_code_outside, Block, BlockEncoder, BlockEncoderOptions, BlockEncoderResult,
-    InstructionBlock, MovedCode, MovedForm, MovedInstruction,
+    move_blocks, move_code, move_code_outside, move_code_unlisted, Block, BlockEncoder, BlockEncoderOptions,
+    BlockEncoderResult, InstructionBlock, MovedCode, MovedForm, MovedInstruction,
 };
 pub use offsets::{ConstantOffsets, Part};
 pub use operand::{MemoryOperand, OpKind, Operand};

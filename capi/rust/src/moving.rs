@@ -2,7 +2,7 @@
 
 use crate::error::{BlocksError, Error, Place};
 use crate::instruction::Instruction;
-use crate::sys::{self, Library, MoveOut};
+use crate::sys::{self, Library, MoveOut, Mover};
 use alloc::vec;
 use alloc::vec::Vec;
 
@@ -160,7 +160,7 @@ pub(crate) fn size_of(number: u64) -> Result<usize, Error> {
 /// # Ok::<(), feddurzai::Error>(())
 /// ```
 pub fn move_code(bitness: u32, old_ip: u64, code: &[u8], new_ip: u64) -> Result<MovedCode, Error> {
-    moved_by(false, bitness, old_ip, code, new_ip)
+    moved_by(Mover::Following, bitness, old_ip, code, new_ip)
 }
 
 /// Moves code and keeps every target: a branch or an operand at RIP or EIP still reaches its old target, even if that is
@@ -179,20 +179,41 @@ pub fn move_code(bitness: u32, old_ip: u64, code: &[u8], new_ip: u64) -> Result<
 /// # Ok::<(), feddurzai::Error>(())
 /// ```
 pub fn move_code_outside(bitness: u32, old_ip: u64, code: &[u8], new_ip: u64) -> Result<MovedCode, Error> {
-    moved_by(true, bitness, old_ip, code, new_ip)
+    moved_by(Mover::Outside, bitness, old_ip, code, new_ip)
 }
 
-fn moved_by(outside: bool, bitness: u32, old_ip: u64, bytes: &[u8], new_ip: u64) -> Result<MovedCode, Error> {
+/// Moves code as [`move_code`] does, with the instructions that the opcode table leaves out and
+/// [`measure`](crate::measure) measures. Such an instruction is moved whole: its bytes, except that its relative number
+/// is set so that it refers to the same address, or to the moved instruction that began there.
+///
+/// # Errors
+///
+/// Those of [`move_code`].
+///
+/// ```
+/// use feddurzai::move_code_unlisted;
+///
+/// // vpxord zmm0, zmm0, [rip+0x10] refers to 0x101a, also at 0x2000; the jump to it follows it
+/// let code = b"\x62\xF1\x7D\x48\xEF\x05\x10\0\0\0\xEB\xF4";
+/// let moved = move_code_unlisted(64, 0x1000, code, 0x2000)?;
+/// assert_eq!(moved.code(), b"\x62\xF1\x7D\x48\xEF\x05\x10\xF0\xFF\xFF\xEB\xF4");
+/// # Ok::<(), feddurzai::Error>(())
+/// ```
+pub fn move_code_unlisted(bitness: u32, old_ip: u64, code: &[u8], new_ip: u64) -> Result<MovedCode, Error> {
+    moved_by(Mover::Unlisted, bitness, old_ip, code, new_ip)
+}
+
+fn moved_by(mover: Mover, bitness: u32, old_ip: u64, bytes: &[u8], new_ip: u64) -> Result<MovedCode, Error> {
     let library = Library::get()?;
     let mut report = sys::MoveReport::default();
     let out = MoveOut { code: &mut [], map: &mut [] };
-    let mut status = library.move_code(outside, bitness, old_ip, bytes, new_ip, out, &mut report);
+    let mut status = library.move_code(mover, bitness, old_ip, bytes, new_ip, out, &mut report);
     let (mut code, mut map) = (Vec::new(), Vec::new());
     if status == NO_ROOM {
         code = vec![0; size_of(report.bytes)?];
         map = vec![sys::Moved::default(); size_of(report.count)?];
         let out = MoveOut { code: &mut code, map: &mut map };
-        status = library.move_code(outside, bitness, old_ip, bytes, new_ip, out, &mut report);
+        status = library.move_code(mover, bitness, old_ip, bytes, new_ip, out, &mut report);
     }
     if status < 0 {
         return Err(Error::of(status, Place { at: report.at, address: report.address, count: report.count }));

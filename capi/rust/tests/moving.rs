@@ -1,9 +1,9 @@
 //! Moved code, regions, steps and hooks. The bytes of branches are those of the Intel SDM.
 
 use feddurzai::{
-    move_blocks, move_code, move_code_outside, step, step_call, step_len, Block, BlockEncoder, BlockEncoderOptions,
-    BlocksError, Code, Decoder, DecoderOptions, Detour, DetourForm, DetourStart, Error, Instruction, InstructionBlock,
-    MovedForm, Region, StepSlots,
+    move_blocks, move_code, move_code_outside, move_code_unlisted, step, step_call, step_len, Block, BlockEncoder,
+    BlockEncoderOptions, BlocksError, Code, Decoder, DecoderOptions, Detour, DetourForm, DetourStart, Error,
+    Instruction, InstructionBlock, MovedForm, Region, StepSlots,
 };
 
 fn decode(bitness: u32, ip: u64, code: &[u8]) -> Vec<Instruction> {
@@ -25,6 +25,12 @@ fn branches_keep_their_targets() {
     let own_loop = b"\x90\xEB\xFD";
     assert_eq!(move_code(64, 0x1000, own_loop, 0x5000).unwrap().code(), own_loop);
     assert_eq!(move_code_outside(64, 0x1000, own_loop, 0x1010).unwrap().code(), b"\x90\xEB\xED");
+    // vpxord zmm0, zmm0, [rip+0x10], and a jump back to it
+    let evex = b"\x62\xF1\x7D\x48\xEF\x05\x10\0\0\0\xEB\xF4";
+    let moved = move_code_unlisted(64, 0x1000, evex, 0x2000).unwrap();
+    assert_eq!(moved.code(), b"\x62\xF1\x7D\x48\xEF\x05\x10\xF0\xFF\xFF\xEB\xF4");
+    assert_eq!((moved.instructions()[0].len, moved.instructions()[0].form), (10, MovedForm::Near));
+    assert_eq!(move_code(64, 0x1000, evex, 0x2000), Err(Error::Invalid { at: 0 }));
     // out of reach: jne over jmp [rip], CC, and the slot with the target
     let far = move_code(64, 0x1000, b"\x74\x10", 0x7FFF_0000_0000).unwrap();
     assert_eq!(far.code(), b"\x75\x06\xFF\x25\x00\x00\x00\x00\x12\x10\x00\x00\x00\x00\x00\x00");

@@ -6,6 +6,7 @@ pub mod PutStarts
 pub mod UsedPlaces
 pub mod ItemsInOrder
 pub mod MovedEntries
+pub mod AnyMovedEntries
 pub mod ItemStructs
 pub mod CodeEnds
 pub mod FeatureNames

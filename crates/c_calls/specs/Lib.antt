@@ -29,6 +29,7 @@ pub mod Steps
 pub mod StepCalls
 pub mod UnlistedSteps
 pub mod UnlistedDetours
+pub mod UnlistedMoves
 pub mod Failing
 pub mod Regions
 pub mod RegionSearch

@@ -27,7 +27,7 @@ fn image_len(bits: Bits, image: &Image) -> u64
 
 /// How many bytes the image of an instruction in a form has, at any place.
 #[tactic(auto, unfolding(move_goals::specs::BranchForms::Images::form_length))]
-fn form_len(bits: Bits, instr: &Instr, form: Form) -> u64
+pub(crate) fn form_len(bits: Bits, instr: &Instr, form: Form) -> u64
     ensures value { result ≡ form_length bits instr.now form }
     ensures small { result < 192 }
 {

@@ -47,5 +47,6 @@ pub mod stepping;
 pub mod texts;
 mod unflatten;
 pub mod unlisted_detour;
+pub mod unlisted_move;
 pub mod unlisted_step;
 pub mod version;

@@ -58,7 +58,7 @@ pub(crate) enum MoveRefusal {
 }
 
 /// The number of a form, 0 to 5.
-fn form_number(form: Form) -> u8
+pub(crate) fn form_number(form: Form) -> u8
     ensures { result ≡ spec.form_number form }
 {
     match form {

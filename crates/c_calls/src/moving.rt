@@ -12,7 +12,7 @@ use decoder::DecodeError;
 use std::alloc::Global;
 
 /// Why nothing is moved, by the refusals of all calls.
-fn refusal_of(why: MoveRefusal) -> Refusal
+pub(crate) fn refusal_of(why: MoveRefusal) -> Refusal
     ensures { result ≡ spec.refusal_of why }
 {
     match why {
@@ -31,7 +31,7 @@ fn refusal_of(why: MoveRefusal) -> Refusal
 }
 
 /// No numbers.
-const NOTHING: FlatMove = FlatMove {
+pub(crate) const NOTHING: FlatMove = FlatMove {
     bytes: 0,
     count: 0,
     at: 0,
@@ -41,7 +41,7 @@ const NOTHING: FlatMove = FlatMove {
 };
 
 /// The numbers of a refusal.
-fn refusal_report(why: MoveRefusal) -> FlatMove
+pub(crate) fn refusal_report(why: MoveRefusal) -> FlatMove
     ensures { result ≡ spec.refusal_report why }
 {
     match why {

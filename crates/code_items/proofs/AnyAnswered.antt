@@ -127,6 +127,7 @@ is_moved bits filler items goals new m out h is = record {
   reached = λ k lt. to-any bits items goals new h.layout h.least.closed.is_layout filler k lt (h.reached k (omega (arith, lt, count-same filler items)));
   bytes = is;
   starts = h.lists.starts ∙ ap (λ (n : ℕ). map (place (any_plan_with bits items goals new) h.layout) (range_with_len 0 n)) (count-same filler items);
+  forms = h.lists.forms ∙ ap (λ (n : ℕ). map (λ k. (item_choice (any_plan_with bits items goals new) h.layout k).form) (range_with_len 0 n)) (count-same filler items);
   slots = h.lists.slots ∙ ap (λ (p : BlockPlan). all_slots (any_plan_with bits items goals new) h.layout (length p.spans)) (plan-is bits items goals new);
 }
 

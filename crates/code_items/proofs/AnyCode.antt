@@ -130,9 +130,9 @@ code-refused bits items new plan_error.Memory h = h
 code-refused bits items new (plan_error.Wraps end) h = h
 code-refused bits items new (plan_error.TooFar at target) h = h
 
--- what contracts see of moved code leaves out forms and ends
+-- what contracts see of moved code leaves out the ends
 pub of-lists : (bits : Bits) (items : List AnyItem) (p : BlockPlan) (m : MovedLists) → IsMovedAnyBy bits items p m
-    → IsMovedAnyBy bits items p (record { bytes = m.bytes; starts = m.starts; forms = []; slots = m.slots; ends = [] })
+    → IsMovedAnyBy bits items p (record { bytes = m.bytes; starts = m.starts; forms = m.forms; slots = m.slots; ends = [] })
 of-lists bits items p m h = record {
   layout = h.layout;
   least = h.least;
@@ -140,5 +140,6 @@ of-lists bits items p m h = record {
   reached = h.reached;
   bytes = h.bytes;
   starts = h.starts;
+  forms = h.forms;
   slots = h.slots;
 }

@@ -7,8 +7,9 @@ use Rattle.x86_values.specs.Wrapping.{modulo_width}
 use Rattle.plain_spelling.specs.Values.{low_bytes, distance}
 use Rattle.unlisted.specs.declared.Relative.{Relative}
 use Rattle.unlisted.specs.Measured.{reference_size}
+use Rattle.branch_sizes.specs.declared.plan.Form.{Form}
 use Rattle.branch_sizes.specs.Plan.{BlockPlan}
-use Rattle.branch_sizes.specs.Layout.{IsLeast, Reaches, place}
+use Rattle.branch_sizes.specs.Layout.{IsLeast, Reaches, item_choice, place}
 use Rattle.branch_sizes.specs.declared.move_layout.layout.Fragment.{Fragment}
 use Rattle.branch_sizes.specs.MoveLayout.Laid.{goal_address, fragment_at, slots_of, all_slots}
 use Rattle.block_encoder.specs.Bytes.{fragment_bytes, gap_bytes, slot_bytes}
@@ -53,7 +54,13 @@ pub record MovedAny : Type 0 where
   pub items : List AnyItem
   pub bytes : List ℕ
   pub starts : List ℕ
+  pub forms : List Form
   pub slots : List ℕ
+
+-- each instruction has a new address and a form
+pub record AreBesideAny (items : List AnyItem) (m : MovedLists) : Type 0 where
+  pub starts : length m.starts ≡ length items
+  pub forms : length m.forms ≡ length items
 
 -- the bytes of the block in a layout: of each instruction in order, and behind them the gap and the slots
 unfoldable pub any_block_bytes : Bits → List AnyItem → BlockPlan → List ℕ → List ℕ
@@ -67,8 +74,8 @@ pub record IsFirstAnyUnreached (bits : Bits) (items : List AnyItem) (p : BlockPl
   pub unreached : IsAnyReached bits (any_at items k) (fragment_at p layout k) → ⊥
   pub before : (j : ℕ) → j < k → IsAnyReached bits (any_at items j) (fragment_at p layout j)
 
--- In the least layout of a plan the new end is inside the address space, each instruction reaches its goal, and the bytes and addresses are those of that
--- layout.
+-- In the least layout of a plan the new end is inside the address space, each instruction reaches its goal, and the bytes, addresses and forms are those
+-- of that layout.
 pub record IsMovedAnyBy (bits : Bits) (items : List AnyItem) (p : BlockPlan) (m : MovedLists) : Type 0 where
   pub layout : List ℕ
   pub least : IsLeast p layout
@@ -76,6 +83,7 @@ pub record IsMovedAnyBy (bits : Bits) (items : List AnyItem) (p : BlockPlan) (m 
   pub reached : (k : ℕ) → k < length items → IsAnyReached bits (any_at items k) (fragment_at p layout k)
   pub bytes : m.bytes ≡ any_block_bytes bits items p layout
   pub starts : m.starts ≡ map (place p layout) (range_with_len 0 (length items))
+  pub forms : m.forms ≡ map (λ k. (item_choice p layout k).form) (range_with_len 0 (length items))
   pub slots : m.slots ≡ all_slots p layout 1
 
 -- the new end is inside the address space, and an instruction does not reach its goal: the first that does not
@@ -95,7 +103,7 @@ IsAnyPlanAnswer bits items p (Err (plan_error.TooFar at target)) = IsAnyTooFarBy
 
 -- the lists of moved code
 abbrev pub lists_of : MovedAny → MovedLists
-lists_of m = record { bytes = m.bytes; starts = m.starts; forms = []; slots = m.slots; ends = [] }
+lists_of m = record { bytes = m.bytes; starts = m.starts; forms = m.forms; slots = m.slots; ends = [] }
 
 -- its instructions are moved by the plan of their targets
 abbrev pub IsMovedAny : Bits → ℕ → MovedAny → Type 0

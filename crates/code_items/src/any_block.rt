@@ -11,7 +11,7 @@ use crate::any_items::AnyItem;
 use crate::any_laws_below::laws_below;
 use crate::any_plan::any_plan_with;
 use crate::any_writing::{filler, stand_ins, write_items};
-use block_encoder::{MovedBlocks, PlanError, move_planned};
+use block_encoder::{Form, MovedBlocks, PlanError, move_planned};
 use branch_sizes::{Goal, Plan};
 use std::alloc::Global;
 use std::marker::Model;
@@ -50,6 +50,13 @@ impl MovedAnyBlock {
         ensures { result.now ≡ self.now.starts }
     {
         self.moved.starts()
+    }
+
+    /// Returns the form of each instruction. One without a row has one form, `Near`.
+    pub fn forms(&self) -> &[Form]
+        ensures { result.now ≡ self.now.forms }
+    {
+        self.moved.forms()
     }
 
     /// Returns the addresses in the slots, in order.

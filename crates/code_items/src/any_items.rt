@@ -36,8 +36,8 @@ pub enum AnyItem {
     Unlisted(UnlistedItem),
 }
 
-/// Returns the address of an instruction.
-pub(crate) fn item_ip(item: &AnyItem) -> u64
+/// Returns the address of the first byte of an instruction.
+pub fn item_ip(item: &AnyItem) -> u64
     ensures { result ≡ spec.item_ip item.now }
 {
     match item {

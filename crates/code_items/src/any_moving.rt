@@ -12,7 +12,7 @@ use crate::any_laws_below::laws_below;
 use crate::any_plan::any_plan;
 use crate::moving::{MoveCodeError, old_pass};
 use crate::reading::ReadError;
-use block_encoder::PlanError;
+use block_encoder::{Form, PlanError};
 use branch_sizes::MOST_ITEMS;
 use std::alloc::Global;
 use std::marker::Model;
@@ -27,13 +27,13 @@ pub struct MovedAnyCode {
 
 impl Model for MovedAnyCode {
     ghost use Rattle.code_items.specs.AnyMoved.{MovedAny};
-    ghost use Rattle.std.specs.Prelude.{◌≡◌, length};
+    ghost use Rattle.code_items.specs.AnyMoved.{AreBesideAny};
 
     ghost Value = { MovedAny };
 
-    ghost view = { λ m. record { items = m.items.items; bytes = m.block.bytes; starts = m.block.starts; slots = m.block.slots } };
+    ghost view = { λ m. record { items = m.items.items; bytes = m.block.bytes; starts = m.block.starts; forms = m.block.forms; slots = m.block.slots } };
 
-    ghost invariant = { λ m. length m.block.starts ≡ length m.items.items };
+    ghost invariant = { λ m. AreBesideAny m.items.items m.block };
 }
 
 impl MovedAnyCode {
@@ -57,6 +57,14 @@ impl MovedAnyCode {
         ensures len { length result.now ≡ length self.now.items }
     {
         self.block.starts()
+    }
+
+    /// Returns the form of each instruction. One without a row has one form, `Near`.
+    pub fn forms(&self) -> &[Form]
+        ensures forms { result.now ≡ self.now.forms }
+        ensures len { length result.now ≡ length self.now.items }
+    {
+        self.block.forms()
     }
 
     /// Returns the addresses in the slots, in order.

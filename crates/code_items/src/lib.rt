@@ -14,7 +14,7 @@ mod moving;
 mod reading;
 
 pub use any_block::{MovedAnyBlock, move_any_block};
-pub use any_items::{AnyItem, UnlistedItem, item_len, read_any, read_any_items};
+pub use any_items::{AnyItem, UnlistedItem, item_ip, item_len, read_any, read_any_items};
 pub use any_moving::{MovedAnyCode, move_code_unlisted};
 pub use any_plan::{any_choices, any_target, is_any_branch};
 pub use items::{CodeItem, CodeItems, CodeIter};

@@ -2,9 +2,10 @@
 
 ghost use Rattle.c_calls.specs.Blocks.{IsBlocksMove};
 ghost use Rattle.c_calls.specs.Moving.{IsMoveFollowing, IsMoveStaying};
+ghost use Rattle.c_calls.specs.UnlistedMoves.{IsUnlistedMove};
 
 use c_calls::flat::{FlatBlock, FlatBlocks, FlatMove, FlatMoved, FlatPlace};
-use c_calls::{blocks, moving};
+use c_calls::{blocks, moving, unlisted_move};
 use std::alloc::Global;
 
 /// Moves code from the address `old` to the address `new`: every branch and every operand at RIP or EIP still reaches what it reached, or follows it if that is
@@ -51,6 +52,31 @@ pub extern "C" fn feddurzai_move_outside(
     ensures { IsMoveStaying bits old bytes.now new out.old out.new map.old map.new report.new result }
 {
     moving::move_outside(alloc, bits, old, bytes, new, out, map, report)
+}
+
+/// Moves code as `feddurzai_move` does, also where the opcode table leaves out some of its instructions.
+///
+/// Such an instruction is moved whole: its bytes, with the number that is relative to the address after it set so that it refers to the same address,
+/// or to the moved instruction that began there. Its form is `Near`.
+///
+/// Result and report are those of `feddurzai_move`. Refusals: `Mode`; `TooLarge`; `Invalid` or `TooShort` with the first offset at which neither an
+/// instruction of the table nor one that is measured starts, where an XBEGIN with a 16-bit distance outside 16-bit mode counts as none; `TooMany`;
+/// `Wraps` with the old end or else the new one; `TooFar`; `Room`. `Memory` may replace any of those after `TooLarge`. The call allocates from the C
+/// library, and frees what it allocated.
+#[unsafe(no_mangle)]
+pub extern "C" fn feddurzai_move_unlisted(
+    alloc: Global,
+    bits: u32,
+    old: u64,
+    bytes: &[u8],
+    new: u64,
+    out: &mut [u8],
+    map: &mut [FlatMoved],
+    report: &mut FlatMove,
+) -> i32
+    ensures { IsUnlistedMove bits old bytes.now new out.old out.new map.old map.new report.new result }
+{
+    unlisted_move::move_unlisted(alloc, bits, old, bytes, new, out, map, report)
 }
 
 /// Moves several blocks of code at once, each to its own address. Each branch and each RIP or EIP operand still reaches its target, or follows it if

@@ -139,6 +139,18 @@ extern "C" {
         map_room: usize,
         report: *mut MoveReport,
     ) -> i32;
+    fn feddurzai_move_unlisted(
+        bits: u32,
+        old_ip: u64,
+        bytes: *const u8,
+        len: usize,
+        new_ip: u64,
+        out: *mut u8,
+        room: usize,
+        map: *mut Moved,
+        map_room: usize,
+        report: *mut MoveReport,
+    ) -> i32;
     fn feddurzai_move_blocks(
         bits: u32,
         bytes: *const u8,
@@ -679,13 +691,25 @@ pub struct HookOut<'a> {
     pub moved: &'a mut [MovedStart],
 }
 
+/// What a call that moves one block does with targets and with instructions that have no row.
+#[cfg(feature = "alloc")]
+#[derive(Clone, Copy)]
+pub enum Mover {
+    /// Moved targets are followed.
+    Following,
+    /// Every target stays.
+    Outside,
+    /// Moved targets are followed, and instructions without a row are moved whole.
+    Unlisted,
+}
+
 /// The calls that allocate memory, and regions.
 #[cfg(feature = "alloc")]
 impl Library {
-    /// Moves code; `outside` keeps every target.
+    /// Moves code.
     pub fn move_code(
         self,
-        outside: bool,
+        mover: Mover,
         bits: u32,
         old_ip: u64,
         bytes: &[u8],
@@ -693,7 +717,11 @@ impl Library {
         out: MoveOut<'_>,
         report: &mut MoveReport,
     ) -> i32 {
-        let call = if outside { feddurzai_move_outside } else { feddurzai_move };
+        let call = match mover {
+            Mover::Following => feddurzai_move,
+            Mover::Outside => feddurzai_move_outside,
+            Mover::Unlisted => feddurzai_move_unlisted,
+        };
         let (code, map) = (out.code, out.map);
         // SAFETY: each slice has as many elements as its length says, `report` is a struct of the header, and no argument
         // that is written overlaps another.

@@ -14,6 +14,7 @@ use c_calls::hooks::make_detour;
 use c_calls::moving::{move_code, move_outside};
 use c_calls::ruled::make_detour_with;
 use c_calls::sight::look;
+use c_calls::unlisted_move::move_unlisted;
 use std::process::Abort;
 
 /// That a moving has so many instructions and bytes, and where the code ends and the slots begin.
@@ -82,6 +83,34 @@ fn code_is_moved_outside(rt: HostRuntime) {
     is_moved(&rt, "the move", answer, &report, &[1, 2, 2, 2]);
     wrote(&rt, "the bytes", answer, &out, 0, b"\xeb\xbe\xaa");
     is_entry(&rt, &map[0], 0x1040, 1);
+}
+
+// vpxord zmm0, zmm0, [rip+0x10] and a jump back to it: it still refers to 0x101a, and the jump follows it.
+#[test]
+fn code_without_a_row_is_moved(rt: HostRuntime) {
+    let (mut out, mut map) = ([0xaa; 13], [NO_ENTRY; 2]);
+    let mut report = NO_MOVE;
+    let code = b"\x62\xf1\x7d\x48\xef\x05\x10\0\0\0\xeb\xf4";
+    let answer = move_unlisted(
+        rt.alloc(),
+        64,
+        0x1000,
+        code,
+        0x2000,
+        &mut out,
+        &mut map,
+        &mut report,
+    );
+    is_moved(&rt, "the move", answer, &report, &[2, 12, 12, 12]);
+    let want = b"\x62\xf1\x7d\x48\xef\x05\x10\xf0\xff\xff\xeb\xf4\xaa";
+    wrote(&rt, "the bytes", answer, &out, 0, want);
+    let found = [
+        map[0].len as u64,
+        map[0].form as u64,
+        map[1].old_ip,
+        map[1].new_ip,
+    ];
+    are(&rt, "the map", &found, &[10, 2, 0x100a, 0x200a]);
 }
 
 // What is reached from the first byte.

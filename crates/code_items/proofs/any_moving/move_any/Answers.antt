@@ -1,6 +1,6 @@
 use Rattle.std.proofs.Common.{◌≡◌, List, length, Err, refl, sym, ap, ◌∙◌, subst}
 use Rattle.std.proofs.lemmas.List.FromFn.{length-map-range_with_len}
-use Rattle.branch_sizes.specs.Layout.{place}
+use Rattle.branch_sizes.specs.Layout.{item_choice, place}
 use Rattle.branch_sizes.specs.Plan.{BlockPlan}
 use Rattle.code_items.specs.declared.any_items.AnyItem.{AnyItem}
 use Rattle.code_items.specs.AnyItems.{any_at}
@@ -36,7 +36,11 @@ moved c =
 pub invariant_of-result : goal.invariant_of-result
 invariant_of-result c =
     let m = moved c in
-    ap length m.starts ∙ length-map-range_with_len (place (any_plan c.args.bits c.args.items.items c.args.new) m.layout) 0 (length c.args.items.items)
+    let p = any_plan c.args.bits c.args.items.items c.args.new in
+    record {
+      starts = ap length m.starts ∙ length-map-range_with_len (place p m.layout) 0 (length c.args.items.items);
+      forms = ap length m.forms ∙ length-map-range_with_len (λ k. (item_choice p m.layout k).form) 0 (length c.args.items.items);
+    }
 
 pub returns-in-Ok-move_by_plan : goal.returns-in-Ok-move_by_plan
 returns-in-Ok-move_by_plan c =
