@@ -1,5 +1,6 @@
 // Hooks functions with instructions that the opcode table leaves out, by feddurzai_detour_unlisted: glibc's own strlen, memset and strchr, which use EVEX
-// on a processor with AVX-512, and three functions of this file. Each is called with many arguments before, with and after the hook. Linux on x86-64.
+// on a processor with AVX-512, and three functions of this file. Each is called with many arguments before, with and after the hook. Then all that control
+// reaches of it is moved to another page by feddurzai_move_unlisted, and the copy is called with the same arguments. Linux on x86-64.
 //
 // The hooks are written while no other thread runs. The last line says how many functions were hooked, and how many of them have an instruction without a
 // row among the overwritten bytes or the reached ones.
@@ -159,8 +160,49 @@ static int32_t make(struct hook *hook, uint64_t at, const uint8_t *code, size_t 
 
 static unsigned hooked, unlisted;
 
+// ---- one moved function
+
+// the end of the last instruction that control reaches
+static size_t reached_end(uint64_t at, const uint8_t *code, size_t len)
+{
+    static uint32_t starts[MOST], leaders[MOST];
+    static uint8_t kinds[MOST];
+    static const uint32_t first[] = {0};
+    int32_t count = feddurzai_flow_unlisted(64, at, code, len, first, 1, starts, MOST, leaders, MOST, kinds, MOST);
+    if (count <= 0)
+        die("no flow graph");
+    size_t last = starts[count - 1];
+    feddurzai_instr instr;
+    feddurzai_shape shape;
+    int32_t size = feddurzai_decode(64, at + last, code + last, len - last, &instr);
+    if (size < 0 && (size = feddurzai_measure(64, code + last, len - last, &shape)) < 0)
+        die("no last instruction");
+    return last + (size_t)size;
+}
+
+// moves a function to a page of its own, and tries the copy in its place
+static void tries_copy(const char *name, uint64_t at, const uint8_t *code, size_t len, void *volatile *called, void (*trial)(void))
+{
+    static uint8_t bytes[MOST];
+    static feddurzai_moved map[MOST];
+    feddurzai_move_report report;
+    uint8_t *place = page_near(at);
+    size_t size = reached_end(at, code, len);
+    int32_t said = feddurzai_move_unlisted(64, at, code, size, (uint64_t)place, bytes, sizeof bytes, map, MOST, &report);
+    if (said < 0) {
+        fprintf(stderr, "hook_unlisted: %s: %d at %llu of %zu\n", name, said, (unsigned long long)report.at, size);
+        exit(1);
+    }
+    write_code((uint64_t)place, bytes, report.bytes);
+    void *old = *called;
+    *called = place;
+    trial();
+    *called = old;
+    printf("%s: %zu bytes moved to %llu, %llu instructions\n", name, size, (unsigned long long)report.bytes, (unsigned long long)report.count);
+}
+
 // hooks a function of the C library, or of this file up to an end, and tries it before, with and after the hook
-static void tries(const char *name, void *function, const uint8_t *end, void *to, void **original, void (*trial)(void))
+static void tries(const char *name, void *function, const uint8_t *end, void *to, void **original, void *volatile *called, void (*trial)(void))
 {
     uint64_t at = (uint64_t)function;
     struct span span = {at, at};
@@ -193,6 +235,7 @@ static void tries(const char *name, void *function, const uint8_t *end, void *to
     unlisted += hook.has_unlisted;
     printf("%s: %zu bytes, a trampoline of %llu, %lu calls%s\n", name, hook.taken, (unsigned long long)report.bytes, met,
         hook.has_unlisted ? ", instructions without a row" : "");
+    tries_copy(name, at, code, len, called, trial);
 }
 
 // ---- what the functions must do
@@ -273,9 +316,9 @@ int main(void)
         die("no /proc/self/mem");
     setvbuf(stdout, NULL, _IONBF, 0);
     call_sum = near_sum;
-    tries("near_sum", (void *)(uintptr_t)near_sum, near_sum_end, (void *)(uintptr_t)new_sum, (void **)&old_sum, tries_sum);
+    tries("near_sum", (void *)(uintptr_t)near_sum, near_sum_end, (void *)(uintptr_t)new_sum, (void **)&old_sum, (void *volatile *)&call_sum, tries_sum);
     call_sum = loop_sum;
-    tries("loop_sum", (void *)(uintptr_t)loop_sum, loop_sum_end, (void *)(uintptr_t)new_sum, (void **)&old_sum, tries_sum);
+    tries("loop_sum", (void *)(uintptr_t)loop_sum, loop_sum_end, (void *)(uintptr_t)new_sum, (void **)&old_sum, (void *volatile *)&call_sum, tries_sum);
 
     static struct hook hook;
     feddurzai_detour_report report;
@@ -288,9 +331,9 @@ int main(void)
         sizeof hook.patch, hook.trampoline, sizeof hook.trampoline, &report);
     printf("bad_sum: refused, entered from offset %llu; feddurzai_detour says %d\n", from, said);
 
-    tries("strlen", dlsym(RTLD_DEFAULT, "strlen"), NULL, (void *)(uintptr_t)new_strlen, (void **)&old_strlen, tries_strlen);
-    tries("strchr", dlsym(RTLD_DEFAULT, "strchr"), NULL, (void *)(uintptr_t)new_strchr, (void **)&old_strchr, tries_strchr);
-    tries("memset", dlsym(RTLD_DEFAULT, "memset"), NULL, (void *)(uintptr_t)new_memset, (void **)&old_memset, tries_memset);
+    tries("strlen", dlsym(RTLD_DEFAULT, "strlen"), NULL, (void *)(uintptr_t)new_strlen, (void **)&old_strlen, (void *volatile *)&call_strlen, tries_strlen);
+    tries("strchr", dlsym(RTLD_DEFAULT, "strchr"), NULL, (void *)(uintptr_t)new_strchr, (void **)&old_strchr, (void *volatile *)&call_strchr, tries_strchr);
+    tries("memset", dlsym(RTLD_DEFAULT, "memset"), NULL, (void *)(uintptr_t)new_memset, (void **)&old_memset, (void *volatile *)&call_memset, tries_memset);
     printf("%u functions hooked, %u with instructions without a row\n", hooked, unlisted);
     return 0;
 }
