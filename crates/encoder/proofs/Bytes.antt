@@ -5,7 +5,7 @@ use Rattle.x86_values.specs.declared.Instr.{Instr}
 use Rattle.instruction_parts.specs.declared.row_types.Row.{Row}
 use Rattle.instruction_parts.specs.declared.spelling.PrefixState.{PrefixState}
 use Rattle.instruction_parts.specs.Sizes.{exists_in}
-use Rattle.instruction_parts.specs.Bytes.{tail_bytes, modrm_bytes, sib_bytes, bytes_of}
+use Rattle.instruction_parts.specs.Bytes.{front_bytes, tail_bytes, modrm_bytes, sib_bytes, bytes_of}
 use Rattle.row_fit.specs.Fits.{vex_in_range, modrm_in_range, sib_in_range, immediates_bytes}
 use Rattle.row_fit.specs.Sound.{sound}
 use Rattle.row_fit.proofs.SoundLaws.{sound_conditions}
@@ -27,7 +27,6 @@ use Rattle.row_relation.proofs.FitLengths.{used_is, plain_long}
 use Rattle.row_relation.proofs.PlainLaws.Exact.{writable_row}
 use Rattle.row_relation.specs.PlainBytes.{plain_tail_bytes, tail_count}
 use Rattle.prefixes.specs.Written.{front_written}
-use Rattle.modrm_sib.proofs.WrittenTail.{bytes-parted}
 
 -- a row in a mode, and an instruction of it whose tail is written
 pub record Suited (bits : Bits) (ip : ℕ) (row : Row) (i : Instr) : Type 0 where
@@ -117,6 +116,12 @@ unfolding plain_tail plain_spelling tail_bytes
 tail-is bits ip row i parts w =
     let next : parts.next ≡ plain_next bits ip row i = w.parts_are.next ∙ ap (λ (x : ℕ). plain_next bits x row i) w.at in
     rw (state-is bits ip row i parts w, w.parts_are.modrm, w.parts_are.sib, w.parts_are.size, next) refl
+
+-- the bytes before the opcode byte and behind it
+bytes-parted : (bits : Bits) (ip : ℕ) (row : Row) (i : Instr)
+    → bytes_of row (plain_spelling bits ip row i) ≡ front_written row (plain_front_of bits row i) ++ ((plain_tail bits ip row i).opcode ∷ tail_bytes (plain_tail bits ip row i))
+unfolding bytes_of front_bytes tail_bytes front_written plain_spelling plain_tail
+bytes-parted bits ip row i = refl
 
 -- the front and what follows it are the bytes of the plain spelling
 pub written-bytes : (bits : Bits) (ip : ℕ) (row : Row) (i : Instr) (parts : PlainParts) (front : List ℕ) → Written bits ip row i parts → front ≡ front_written row parts.state

@@ -4,3 +4,8 @@ pub mod OverTable
 pub mod Causes
 pub mod Suited
 pub mod Spelled
+pub mod FrequentFacts
+pub mod FrequentRegisters
+pub mod FrequentNear
+pub mod FrequentMemory
+pub mod FrequentLow

@@ -1,7 +1,8 @@
 //! Instructions, written as bytes (Intel SDM volume 2, 2.1 to 2.3).
 #![tactic(auto)]
 
-ghost use Rattle.std.specs.Prelude.{◌≡◌, ℕ, ◌≤◌, ◌<◌, ◌++◌, List, length, [], IfOk, IsErr, IfSome, IsNone, IsTrue, slice_get, Some};
+ghost use Rattle.std.specs.Prelude.{◌≡◌, ℕ, ◌≤◌, ◌<◌, ◌++◌, List, length, [], Ok, IfOk, IsErr, IfSome, IsNone, IsTrue, slice_get, Some};
+ghost use Rattle.x86_values.specs.declared.Bits.TheVariants.{B64};
 ghost use Rattle.x86_values.specs.Wrapping.{modulo_width};
 ghost use Rattle.instruction_parts.specs.Sizes as sizes;
 ghost use Rattle.instruction_parts.specs.Bytes.{bytes_of};
@@ -18,6 +19,7 @@ ghost use Rattle.opcode_rows.specs.Reading.{IsRead};
 ghost use Rattle.encoder.specs.Encoding.{encoding, encoded_by, answer_bytes, written_onto, length_of, reading_of_bytes};
 
 use arrayvec::ArrayVec;
+use frequent::write_frequent;
 use instruction_parts::row_types::Row;
 use instruction_parts::sizes::{exists_in, is_vex_row};
 use opcode_rows::{ROWS, row_of};
@@ -29,6 +31,7 @@ use row_fit::fits::reads_gather;
 use row_relation::append_plain_tail;
 use x86_values::{Bits, Instr, wrap};
 
+mod frequent;
 pub mod laws;
 
 /// Writes the encoding of an instruction of a row that exists in the mode, at an address of the mode, or returns why there is none.
@@ -138,9 +141,9 @@ fn encode_onto(out: &mut ArrayVec<u8, 15>, bits: Bits, ip: u64, instr: &Instr) -
     encode_row(out, bits, wrap(bits, u128::from(ip)), &row, instr)
 }
 
-/// Returns the encoding of an instruction at an address. Its bytes are written once, directly into the result.
+/// Returns the encoding of an instruction at an address, whatever its shape. Its bytes are written once, directly into the result.
 #[inline(never)]
-fn encode_by_row(bits: Bits, ip: u64, instr: &Instr) -> Result<ArrayVec<u8, 15>, NoSpelling>
+fn encode_any(bits: Bits, ip: u64, instr: &Instr) -> Result<ArrayVec<u8, 15>, NoSpelling>
     ensures { answer_bytes result ≡ encoding bits ip instr.now }
 {
     let mut bytes = ArrayVec::new();
@@ -148,6 +151,35 @@ fn encode_by_row(bits: Bits, ip: u64, instr: &Instr) -> Result<ArrayVec<u8, 15>,
         return Err(refusal);
     }
     Ok(bytes)
+}
+
+/// Writes the encoding of an instruction in 64-bit mode, if its shape is a frequent one; else it writes nothing and returns false.
+#[inline(always)]
+fn encode_frequent(out: &mut ArrayVec<u8, 15>, ip: u64, instr: &Instr) -> bool
+    requires empty { out.old.items ≡ [] }
+    ensures { IsTrue result → Ok out.new.items ≡ encoding B64 ip instr.now }
+{
+    // Four operands, as the proof has to know.
+    let [_first, _second, _third, _fourth] = instr.ops;
+    if instr.code.0 >= ROWS {
+        return false;
+    }
+    let row = row_of(instr.code);
+    exists_in(Bits::B64, &row) && write_frequent(out, ip, &row, instr)
+}
+
+/// Returns the encoding of an instruction at an address. A frequent one is found without the general tests.
+#[inline(never)]
+fn encode_by_row(bits: Bits, ip: u64, instr: &Instr) -> Result<ArrayVec<u8, 15>, NoSpelling>
+    ensures { answer_bytes result ≡ encoding bits ip instr.now }
+{
+    // Four operands, as the proof has to know.
+    let [_first, _second, _third, _fourth] = instr.ops;
+    let mut bytes = ArrayVec::new();
+    match bits {
+        Bits::B64 if encode_frequent(&mut bytes, ip, instr) => Ok(bytes),
+        _ => encode_any(bits, ip, instr),
+    }
 }
 
 /// Encodes an instruction at an address. Returns its plain spelling, 1 to 15 bytes: the shortest bytes that decode to it there.
