@@ -10,3 +10,4 @@ pub mod NumberLaws
 pub mod Ascii
 pub mod AddressAscii
 pub mod LayoutAscii
+pub mod Frequent

@@ -5,3 +5,4 @@ pub mod Registers
 pub mod Addresses
 pub mod PrefixWords
 pub mod Layout
+pub mod Frequent

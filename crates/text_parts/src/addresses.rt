@@ -5,7 +5,7 @@ ghost use Rattle.arrayvec.specs.ArrayVec.{array_vec_len};
 ghost use Rattle.text_parts.specs.Addresses as spec;
 
 use crate::numbers::{append_decimal, append_number};
-use crate::registers::{append_override, append_register};
+use crate::registers::{append_frequent_register, append_override, append_register};
 use crate::style::Style;
 use crate::text::append_few;
 use arrayvec::ArrayVec;
@@ -38,7 +38,10 @@ pub fn is_absolute(m: &Mem) -> bool
 fn is_negative(asize: Bits, d: u64) -> bool
     ensures { result ≡ spec.is_negative asize d }
 {
-    modulus(asize) - 1 < 2 * wrap(asize, d as u128) as u128
+    match asize {
+        Bits::B64 => 0x8000_0000_0000_0000 <= d,
+        _ => modulus(asize) - 1 < 2 * wrap(asize, d as u128) as u128,
+    }
 }
 
 /// Its distance from zero as a signed number.
@@ -132,7 +135,7 @@ pub fn append_base<const N: usize>(out: &mut ArrayVec<u8, N>, style: Style, base
 {
     match base {
         None => {}
-        Some(r) => append_register(out, style, r),
+        Some(r) => append_frequent_register(out, style, r),
     }
 }
 

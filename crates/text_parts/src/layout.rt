@@ -6,16 +6,18 @@ ghost use Rattle.row_fit.specs.Sound.{sound};
 ghost use Rattle.text_parts.specs.Numbers.{number};
 ghost use Rattle.text_parts.specs.Addresses.{bracketed_address};
 ghost use Rattle.text_parts.specs.PrefixWords.{text_address_size};
+ghost use Rattle.row_meaning.specs.MemorySize.{row_size_bytes, memory_size};
+ghost use Rattle.text_parts.specs.Frequent as frequent;
 ghost use Rattle.text_parts.specs.Layout as spec;
 
 use crate::addresses::append_bracketed;
 use crate::numbers::append_number;
 use crate::prefix_words::{append_prefix_words, name_text, text_address_size};
-use crate::registers::append_register;
+use crate::registers::append_frequent_register;
 use crate::style::Style;
 use crate::text::{TEXT_LEN, append, append_few};
 use arrayvec::ArrayVec;
-use instruction_parts::row_types::{OpKind, Row, Size};
+use instruction_parts::row_types::{OpKind, Place, Row, Size};
 use row_fit::tail_fits::kind_at;
 use row_meaning::row_memory_size;
 use x86_values::{Bits, Instr, Mem, Operand};
@@ -82,6 +84,89 @@ pub fn is_far_pointer(kind: OpKind) -> bool
     }
 }
 
+/// Whether a kind is of no operand.
+#[inline(always)]
+fn is_absent(kind: OpKind) -> bool
+    ensures { result ≡ frequent.is_absent_kind kind }
+{
+    match kind {
+        OpKind::Absent => true,
+        _ => false,
+    }
+}
+
+/// Whether a row limits r/m to registers.
+#[inline(always)]
+fn is_register_place(place: Place) -> bool
+    ensures { result ≡ frequent.is_register_place place }
+{
+    match place {
+        Place::Register => true,
+        _ => false,
+    }
+}
+
+/// Whether a row has at most two operands, and may have memory in r/m.
+#[inline(always)]
+#[tactic(auto, unfolding(crate::specs::Frequent::has_pair_in_memory))]
+fn has_pair_in_memory(row: &Row) -> bool
+    ensures { result ≡ frequent.has_pair_in_memory row.now }
+{
+    is_absent(kind_at(row, 2)) && is_absent(kind_at(row, 3)) && !is_register_place(row.place)
+}
+
+/// The operand size that a row has in bytes.
+#[inline(always)]
+#[tactic(auto, unfolding(row_meaning::specs::MemorySize::row_size_bytes))]
+fn row_bytes(size: Size) -> u8
+    ensures { result ≡ row_size_bytes size }
+{
+    match size {
+        Size::O16 => 2,
+        Size::O64 => 8,
+        _ => 4,
+    }
+}
+
+/// Returns the bytes of the memory operand of a row with two operands, the most frequent ones: one beside a general register, which has the operand
+/// size, or none in LEA. Returns None for all other kinds.
+#[inline(always)]
+fn paired_bytes(size: Size, first: OpKind, second: OpKind) -> Option<u8>
+    ensures { result ≡ frequent.paired_bytes size first second }
+{
+    match (first, second) {
+        (OpKind::Ev, OpKind::Gv) => Some(row_bytes(size)),
+        (OpKind::Gv, OpKind::Ev) => Some(row_bytes(size)),
+        (OpKind::Gv, OpKind::M) => Some(0),
+        _ => None,
+    }
+}
+
+/// Returns the bytes of the memory operand of a row of any kinds.
+#[inline(never)]
+fn any_memory_bytes(row: &Row) -> u8
+    requires { IsTrue (sound row.now) }
+    ensures { result ≡ memory_size row.now }
+{
+    row_memory_size(row)
+}
+
+/// Returns the bytes of a row's memory operand, or 0 if there is none.
+#[inline(always)]
+fn memory_bytes(row: &Row) -> u8
+    requires { IsTrue (sound row.now) }
+    ensures { result ≡ memory_size row.now }
+{
+    if has_pair_in_memory(row) {
+        match paired_bytes(row.size, kind_at(row, 0), kind_at(row, 1)) {
+            Some(n) => n,
+            None => any_memory_bytes(row),
+        }
+    } else {
+        any_memory_bytes(row)
+    }
+}
+
 /// Appends the size of what operand `n` of a row has in memory.
 #[tactic(auto, unfolding(crate::specs::Layout::size_word, crate::specs::Layout::operand_size_name))]
 fn append_size_word<const N: usize>(out: &mut ArrayVec<u8, N>, style: Style, row: &Row, n: usize)
@@ -93,7 +178,7 @@ fn append_size_word<const N: usize>(out: &mut ArrayVec<u8, N>, style: Style, row
     if is_far_pointer(kind_at(row, n)) {
         append_far_name(out, style, row.size);
     } else {
-        append_size_name(out, style, row_memory_size(row));
+        append_size_name(out, style, memory_bytes(row));
     }
 }
 
@@ -179,7 +264,7 @@ fn append_operand_part<const N: usize>(
     }
     match op {
         Operand::Absent => {}
-        Operand::Reg(r) => append_register(out, style, *r),
+        Operand::Reg(r) => append_frequent_register(out, style, *r),
         Operand::Imm(x) => append_number(out, style, *x),
         Operand::Near(x) => append_number(out, style, *x),
         Operand::Far { selector, offset } => append_far(out, style, *selector, *offset),
@@ -193,9 +278,11 @@ fn append_mnemonic<const N: usize>(out: &mut ArrayVec<u8, N>, name: &[u8])
     requires { array_vec_len out.old + length name.now ≤ N }
     ensures { out.new.items ≡ out.old.items ++ name.now }
 {
+    if name.len() == 3 {
+        return append_few(out, &[name[0], name[1], name[2]]);
+    }
     match name {
         [a, b] => append_few(out, &[*a, *b]),
-        [a, b, c] => append_few(out, &[*a, *b, *c]),
         [a, b, c, d] => append_few(out, &[*a, *b, *c, *d]),
         [a, b, c, d, e] => append_few(out, &[*a, *b, *c, *d, *e]),
         _ => append(out, name),

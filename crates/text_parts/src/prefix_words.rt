@@ -1,15 +1,17 @@
 //! The words in front of an instruction's operands: its prefixes and its name.
 
-ghost use Rattle.std.specs.Prelude.{◌≡◌, ◌≤◌, ◌+◌, [], ◌++◌, length};
+ghost use Rattle.std.specs.Prelude.{◌≡◌, ◌≤◌, ◌+◌, ◌&&◌, not, [], ◌++◌, length};
 ghost use Rattle.std.specs.List.{list_any};
 ghost use Rattle.arrayvec.specs.ArrayVec.{array_vec_len};
+ghost use Rattle.text_parts.specs.Frequent as frequent;
 ghost use Rattle.text_parts.specs.PrefixWords as spec;
 
 use crate::registers::segment_name;
 use crate::text::append_few;
 use arrayvec::ArrayVec;
+use instruction_parts::counting::is_64;
 use instruction_parts::row_types::{Row, Size};
-use instruction_parts::sizes::operand_size;
+use instruction_parts::sizes::{has_bang, has_caret, operand_size};
 use x86_values::{Bits, Instr, Operand, Register, Rep, same_bits};
 
 /// Appends the word of LOCK.
@@ -148,12 +150,21 @@ fn is_counter_jump(name: &[u8]) -> bool
     name == b"jrcxz".as_slice()
 }
 
-/// Returns whether an address size has its own word.
+/// Whether neither the name nor an operand shows the address size.
+#[inline(never)]
+fn is_address_size_hidden(name: &[u8], instr: &Instr) -> bool
+    ensures { result ≡ (not (spec.is_counter_jump name.now) && not (list_any spec.shows_address_size instr.now.ops)) }
+{
+    !is_counter_jump(name) && !some_shows_address_size(instr)
+}
+
+/// Returns whether an address size has its own word. Mostly it is the mode's, and nothing is called.
+#[inline(always)]
 #[tactic(auto, unfolding(crate::specs::PrefixWords::needs_address_word))]
 fn needs_address_word(bits: Bits, size: Bits, name: &[u8], instr: &Instr) -> bool
     ensures { result ≡ spec.needs_address_word bits size name.now instr.now }
 {
-    differs(size, bits) && !is_counter_jump(name) && !some_shows_address_size(instr)
+    differs(size, bits) && is_address_size_hidden(name, instr)
 }
 
 /// Appends the address size, if it is not the mode's and nothing else shows it.
@@ -199,6 +210,17 @@ fn named_size(size: Size) -> Option<Bits>
     }
 }
 
+/// Whether a size is 64.
+#[inline(always)]
+fn is_quad(size: Size) -> bool
+    ensures { result ≡ frequent.is_quad size }
+{
+    match size {
+        Size::O64 => true,
+        _ => false,
+    }
+}
+
 /// The operand size that needs no word.
 #[tactic(auto, unfolding(crate::specs::PrefixWords::usual_size, crate::specs::PrefixWords::is_w_size))]
 fn usual_size(bits: Bits, row: &Row) -> Bits
@@ -210,6 +232,15 @@ fn usual_size(bits: Bits, row: &Row) -> Bits
     }
 }
 
+/// Whether a row has the operand size 64 as its usual one, which needs no word. Most rows that are printed with their size are so.
+#[inline(always)]
+#[tactic(auto, unfolding(crate::specs::Frequent::is_usually_quad))]
+fn is_usually_quad(bits: Bits, row: &Row) -> bool
+    ensures { result ≡ frequent.is_usually_quad bits row.now }
+{
+    is_64(bits) && is_quad(row.size) && (has_bang(row) || has_caret(row))
+}
+
 /// Appends the operand size, if the row is printed with it and it is not the default.
 #[tactic(auto, unfolding(crate::specs::PrefixWords::operand_size_word))]
 fn append_operand_size_word<const N: usize>(out: &mut ArrayVec<u8, N>, bits: Bits, row: &Row)
@@ -217,6 +248,9 @@ fn append_operand_size_word<const N: usize>(out: &mut ArrayVec<u8, N>, bits: Bit
     ensures { out.new.items ≡ out.old.items ++ spec.operand_size_word bits row.now }
 {
     if is_sized(row) {
+        if is_usually_quad(bits, row) {
+            return;
+        }
         match named_size(row.size) {
             None => {}
             Some(size) => {

@@ -173,6 +173,31 @@ pub fn append_register<const N: usize>(out: &mut ArrayVec<u8, N>, style: Style, 
     append_register_name(out, style, r);
 }
 
+/// Appends a register. The first eight general registers of 64 bits are most frequent, and are appended without a call.
+#[inline(always)]
+#[tactic(auto, unfolding(crate::specs::Registers::register, crate::specs::Registers::register_name, crate::specs::Registers::general_name))]
+pub(crate) fn append_frequent_register<const N: usize>(
+    out: &mut ArrayVec<u8, N>,
+    style: Style,
+    r: Register,
+)
+    requires { array_vec_len out.old + length (spec.register style r) ≤ N }
+    ensures { out.new.items ≡ out.old.items ++ spec.register style r }
+{
+    match r {
+        Register::R64(n) => {
+            if n < 8 {
+                append_sigil(out, style);
+                append_few(out, b"r");
+                append_few(out, &word_name(n));
+            } else {
+                append_register(out, style, r);
+            }
+        }
+        _ => append_register(out, style, r),
+    }
+}
+
 /// Appends a segment override: `fs:`, or `%fs:` in AT&T.
 #[tactic(auto, unfolding(crate::specs::Registers::segment_override))]
 pub fn append_override<const N: usize>(
