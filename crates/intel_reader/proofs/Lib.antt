@@ -1,4 +1,5 @@
 pub mod Complete
+pub mod FourPlaces
 pub mod Flags
 pub mod RowNumbers
 pub mod AddressBack

@@ -1,5 +1,5 @@
 -- The one instruction that the words of a text can be of, by its row, its address size and its displacement size.
-use Rattle.std.specs.Prelude.{◌≡◌, ℕ, ◌<◌, ◌-◌, ◌%◌, ◌^◌, Bool, true, false, if◌then◌else◌, [], ◌∷◌, Option, Some, None, unwrap_or, slice_index_or}
+use Rattle.std.specs.Prelude.{◌≡◌, ℕ, ◌<◌, ◌-◌, ◌%◌, ◌^◌, Bool, true, false, if◌then◌else◌, List, [], ◌∷◌, Option, Some, None, unwrap_or, slice_index_or}
 use Rattle.x86_values.specs.declared.Bits.{Bits}
 use Rattle.x86_values.specs.declared.Segment.{Segment}
 use Rattle.x86_values.specs.declared.Register.TheVariants.{Eip, Rip}
@@ -59,14 +59,20 @@ operand_from near asize size (Address a) = MemOperand (address_from asize size a
 
 -- ---- the instruction
 
+-- operand n of the words
+abbrev pub text_at : IntelWords → ℕ → OperandText
+text_at words n = slice_index_or words.ops n Absent
+
+-- the operands of these words and of a row, with an address size and a displacement size
+unfoldable pub operands_from : Row → IntelWords → Bits → DispSize → List Operand
+operands_from row words asize size =
+    let op : ℕ → Operand = λ n. operand_from (is_near_at row n) asize size (text_at words n) in
+    op 0 ∷ op 1 ∷ op 2 ∷ op 3 ∷ []
+
 -- the segment in front of an address, else another
 unfoldable pub segment_or : OperandText → Option Segment → Option Segment
 segment_or (Address a) other = a.seg
 segment_or _ other = other
-
--- operand n of the words
-abbrev pub text_at : IntelWords → ℕ → OperandText
-text_at words n = slice_index_or words.ops n Absent
 
 -- the segment in front of the first address, or the one that stands as a word where there is no address
 unfoldable pub segment_from : IntelWords → Option Segment

@@ -34,8 +34,8 @@ fn displacement_from(asize: Bits, disp: Option<SignedText>) -> u64
 
 /// Returns the address whose text has these words inside its brackets.
 #[tactic(auto, unfolding(crate::specs::Candidate::address_from))]
-pub fn address_from(asize: Bits, disp_size: DispSize, inside: Inside) -> Mem
-    ensures { result ≡ spec.address_from asize disp_size inside }
+pub fn address_from(asize: Bits, disp_size: DispSize, inside: &Inside) -> Mem
+    ensures { result ≡ spec.address_from asize disp_size inside.now }
 {
     match inside {
         Inside::Nothing => Mem {
@@ -50,14 +50,14 @@ pub fn address_from(asize: Bits, disp_size: DispSize, inside: Inside) -> Mem
             index: None,
             scale: 1,
             disp_size,
-            disp,
+            disp: *disp,
         },
         Inside::Rel { eip, target } => Mem {
-            base: Some(if eip { Register::Eip } else { Register::Rip }),
+            base: Some(if *eip { Register::Eip } else { Register::Rip }),
             index: None,
             scale: 1,
             disp_size,
-            disp: target,
+            disp: *target,
         },
         Inside::Sum(sum) => Mem {
             base: sum.base,
@@ -81,35 +81,45 @@ pub fn is_near_at(row: &Row, n: usize) -> bool
     }
 }
 
-/// Returns the operand that these words stand for. A number is a near target or an immediate.
+/// Writes the operand that these words stand for to its place. A number is a near target or an immediate.
+#[inline]
 #[tactic(auto, unfolding(crate::specs::Candidate::operand_from))]
-pub fn operand_from(near: bool, asize: Bits, disp_size: DispSize, words: OperandText) -> Operand
-    ensures { result ≡ spec.operand_from near asize disp_size words }
+fn operand_into(
+    near: bool,
+    asize: Bits,
+    disp_size: DispSize,
+    words: &OperandText,
+    out: &mut Operand,
+)
+    ensures { out.new ≡ spec.operand_from near asize disp_size words.now }
 {
     match words {
-        OperandText::Absent => Operand::Absent,
-        OperandText::Reg(register) => Operand::Reg(register),
+        OperandText::Absent => *out = Operand::Absent,
+        OperandText::Reg(register) => *out = Operand::Reg(*register),
         OperandText::Number(x) => {
             if near {
-                Operand::Near(x)
+                *out = Operand::Near(*x)
             } else {
-                Operand::Imm(x)
+                *out = Operand::Imm(*x)
             }
         }
-        OperandText::Far { selector, offset } => Operand::Far {
-            selector: (selector % 0x1_0000) as u16,
-            offset: (offset % 0x1_0000_0000) as u32,
-        },
+        OperandText::Far { selector, offset } => {
+            *out = Operand::Far {
+                selector: (*selector % 0x1_0000) as u16,
+                offset: (*offset % 0x1_0000_0000) as u32,
+            }
+        }
         OperandText::Mem(address) => {
-            Operand::Mem(address_from(asize, disp_size, address.inside))
+            *out = Operand::Mem(address_from(asize, disp_size, &address.inside))
         }
     }
 }
 
 /// The segment in front of an address, else another.
+#[inline]
 #[tactic(auto, unfolding(crate::specs::Candidate::segment_or))]
-fn segment_or(words: OperandText, other: Option<Segment>) -> Option<Segment>
-    ensures { result ≡ spec.segment_or words other }
+fn segment_or(words: &OperandText, other: Option<Segment>) -> Option<Segment>
+    ensures { result ≡ spec.segment_or words.now other }
 {
     match words {
         OperandText::Mem(address) => address.seg,
@@ -118,40 +128,57 @@ fn segment_or(words: OperandText, other: Option<Segment>) -> Option<Segment>
 }
 
 /// Returns the segment before the first address, or the segment that is a separate word if there is no address.
+#[inline]
 #[tactic(auto, unfolding(crate::specs::Candidate::segment_from))]
 fn segment_from(words: &IntelWords) -> Option<Segment>
     ensures { result ≡ spec.segment_from words.now }
 {
-    let last = segment_or(words.ops[3], words.seg);
-    let third = segment_or(words.ops[2], last);
-    let second = segment_or(words.ops[1], third);
-    segment_or(words.ops[0], second)
+    let last = segment_or(&words.ops[3], words.seg);
+    let third = segment_or(&words.ops[2], last);
+    let second = segment_or(&words.ops[1], third);
+    segment_or(&words.ops[0], second)
 }
 
-/// Returns the instruction that these words stand for with a row and its code, one of its address sizes, and one displacement size.
+/// Writes the operands that these words stand for to their places.
+#[inline]
+fn operands_into(
+    row: &Row,
+    words: &IntelWords,
+    asize: Bits,
+    disp_size: DispSize,
+    ops: &mut [Operand; 4],
+)
+    ensures { ops.new ≡ spec.operands_from row.now words.now asize disp_size }
+{
+    let place = &mut ops[0];
+    operand_into(is_near_at(row, 0), asize, disp_size, &words.ops[0], place);
+    let place = &mut ops[1];
+    operand_into(is_near_at(row, 1), asize, disp_size, &words.ops[1], place);
+    let place = &mut ops[2];
+    operand_into(is_near_at(row, 2), asize, disp_size, &words.ops[2], place);
+    let place = &mut ops[3];
+    operand_into(is_near_at(row, 3), asize, disp_size, &words.ops[3], place);
+}
+
+/// Writes the instruction that these words stand for with a row and its code, one of its address sizes, and one displacement size.
+// Each operand is written to its place: operands that are handed on are copied.
 #[tactic(auto, unfolding(crate::specs::Candidate::candidate))]
-pub fn candidate(
+pub fn candidate_into(
     bits: Bits,
     row: &Row,
     code: Code,
     words: &IntelWords,
     asize: Option<Bits>,
     disp_size: DispSize,
-) -> Instr
-    ensures { result ≡ spec.candidate bits row.now code words.now asize disp_size }
+    out: &mut Instr,
+)
+    ensures { out.new ≡ spec.candidate bits row.now code words.now asize disp_size }
 {
+    out.code = code;
+    out.lock = words.lock;
+    out.rep = words.rep;
+    out.seg = segment_from(words);
+    out.asize = asize;
     let size = asize.unwrap_or(bits);
-    Instr {
-        code,
-        lock: words.lock,
-        rep: words.rep,
-        seg: segment_from(words),
-        asize,
-        ops: [
-            operand_from(is_near_at(row, 0), size, disp_size, words.ops[0]),
-            operand_from(is_near_at(row, 1), size, disp_size, words.ops[1]),
-            operand_from(is_near_at(row, 2), size, disp_size, words.ops[2]),
-            operand_from(is_near_at(row, 3), size, disp_size, words.ops[3]),
-        ],
-    }
+    operands_into(row, words, size, disp_size, &mut out.ops);
 }

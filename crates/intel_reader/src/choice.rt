@@ -14,20 +14,22 @@ ghost use Rattle.intel_reader.specs.Assembled.{Assembly, compare_assemblies, IsC
 ghost use Rattle.intel_reader.specs.Candidate as spec;
 ghost use Rattle.intel_reader.specs.Possible.{is_counter_word, asked_by};
 ghost use Rattle.intel_reader.specs.Choice.{assembly_of, LeadsChoice, IsHeld, IsProgress};
+ghost use Rattle.intel_reader.specs.Lengths as lengths;
 ghost use Rattle.intel_reader.specs.Lengths.{is_behind};
 
 use crate::buckets::{code_at, indices_of};
-use crate::candidate::candidate;
+use crate::candidate::candidate_into;
 use crate::lengths::least_len;
 use crate::operands::takes_at;
 use crate::possible::{asked_by, displacement_allowed, has_address, has_size, size_allowed};
 use arrayvec::ArrayVec;
+use decoder::UNREAD;
 use encoder::encode;
 use instruction_parts::row_types::Row;
 use intel_text::print;
-use intel_words::reading::read_words;
+use intel_words::reading::{NO_WORDS, read_words_into};
 use intel_words::words::IntelWords;
-use opcode_rows::{ROWS, name, row_of, well_formed};
+use opcode_rows::{ROWS, name, row_of};
 use std::cmp::Ordering;
 use x86_values::{Bits, Code, DispSize, Instr};
 
@@ -73,34 +75,44 @@ fn keep_first(best: &mut Option<Found>, other: Found)
     }
 }
 
-/// Returns whether an instruction with a code and at least so many bytes comes after the best so far.
+/// Returns whether the instructions of a row and its code with these words and this displacement size come after the best so far, as they are longer.
+// How long they are is computed only if there is a best.
+#[inline]
 #[tactic(auto, unfolding(crate::specs::Lengths::is_behind))]
-fn is_behind(best: &Option<Found>, code: Code, least: u8) -> bool
-    ensures { result ≡ is_behind best.now code.0 least }
+fn is_behind(
+    best: &Option<Found>,
+    bits: Bits,
+    row: &Row,
+    code: Code,
+    words: &IntelWords,
+    size: DispSize,
+) -> bool
+    ensures { result ≡ is_behind best.now code.0 (lengths.least_len bits row.now words.now size) }
 {
     match best {
         None => false,
         Some(first) => {
+            let least = least_len(bits, row, words, size);
             first.bytes.len() < least as usize
                 || (first.bytes.len() == least as usize && first.instr.code.0 < code.0)
         }
     }
 }
 
-/// Returns the instruction with its bytes, if it has a plain spelling at the address and this text.
-fn candidate_of(bits: Bits, ip: u64, text: &[u8], instr: Instr) -> Option<Found>
-    ensures candidate { IfSome result (λ f. IsCandidate bits ip text.now (assembly_of f)) }
-    ensures found { (b : Assembly) → IsCandidate bits ip text.now b → instr ≡ b.instr → MatchOption result ⊥ (λ f. assembly_of f ≡ b) }
+/// Returns the bytes of an instruction's plain spelling, if it has one at the address and this text.
+// An instruction with a plain spelling is well-formed, so that it has a text.
+#[inline]
+fn bytes_of_candidate(bits: Bits, ip: u64, text: &[u8], instr: &Instr) -> Option<ArrayVec<u8, 15>>
+    ensures candidate { IfSome result (λ bytes. IsCandidate bits ip text.now (record { instr = instr.now; bytes = bytes.items })) }
+    ensures found { (b : Assembly) → IsCandidate bits ip text.now b → instr.now ≡ b.instr
+        → MatchOption result ⊥ (λ bytes. (record { instr = instr.now; bytes = bytes.items }) ≡ b) }
 {
-    match encode(bits, ip, &instr) {
+    match encode(bits, ip, instr) {
         Err(_) => None,
         Ok(bytes) => {
-            if !well_formed(&instr) {
-                return None;
-            }
-            let printed = print(bits, &instr);
+            let printed = print(bits, instr);
             if printed.as_slice() == text {
-                Some(Found { instr, bytes })
+                Some(bytes)
             } else {
                 None
             }
@@ -127,13 +139,14 @@ fn with_candidate(
     if !displacement_allowed(bits, row, words, asize, size) {
         return;
     }
-    if is_behind(best, code, least_len(bits, row, words, size)) {
+    if is_behind(best, bits, row, code, words, size) {
         return;
     }
-    let instr = candidate(bits, row, code, words, asize, size);
-    match candidate_of(bits, ip, text, instr) {
+    let mut instr = UNREAD.instr;
+    candidate_into(bits, row, code, words, asize, size, &mut instr);
+    match bytes_of_candidate(bits, ip, text, &instr) {
         None => {}
-        Some(found) => keep_first(best, found),
+        Some(bytes) => keep_first(best, Found { instr, bytes }),
     }
 }
 
@@ -341,8 +354,9 @@ pub fn first_of(bits: Bits, ip: u64, text: &[u8]) -> Option<Found>
     ensures first { IfSome result (λ f. IsFirst bits ip text.now (assembly_of f)) }
     ensures none { IsNone result → IsNoText bits ip text.now }
 {
-    match read_words(text) {
+    let mut words = NO_WORDS;
+    match read_words_into(text, &mut words) {
         None => None,
-        Some(read) => first_among(bits, ip, text, &read.words, read.name),
+        Some(name) => first_among(bits, ip, text, &words, name),
     }
 }

@@ -1,15 +1,16 @@
 //! Tests of the words of a text before any instruction is made of them: whether a row can have them at all, and with which sizes.
 
 ghost use Rattle.std.specs.Prelude.{◌≡◌, ◌<◌};
+ghost use Rattle.instruction_parts.specs.Kinds.{method_of};
 ghost use Rattle.intel_reader.specs.Operands.{number_of};
 ghost use Rattle.intel_reader.specs.Possible as spec;
 
 use crate::candidate::address_from;
 use crate::operands::{OperandClass, class_of_register, flags_of_classes};
-use instruction_parts::kinds::{Method, method_of_kind};
-use instruction_parts::row_types::Row;
+use instruction_parts::kinds::method_of_kind;
+use instruction_parts::row_types::{OpKind, Row};
 use instruction_parts::sizes::has_address_mark;
-use intel_words::words::{IntelWords, OperandText};
+use intel_words::words::{AddressText, IntelWords, OperandText};
 use plain_spelling::addresses::{displacement_suits, has_address_size, told_size, written_size};
 use row_fit::tail_fits::kind_at;
 use x86_values::{Bits, DispSize, same_bits};
@@ -72,12 +73,12 @@ pub fn has_size(row: &Row, words: &IntelWords) -> bool
 
 /// Whether an address size agrees with what an address shows.
 #[tactic(auto, unfolding(crate::specs::Possible::text_agrees, plain_spelling::specs::Expressible::size_agrees))]
-fn text_agrees(asize: Bits, text: OperandText) -> bool
-    ensures { result ≡ spec.text_agrees asize text }
+fn text_agrees(asize: Bits, text: &OperandText) -> bool
+    ensures { result ≡ spec.text_agrees asize text.now }
 {
     match text {
         OperandText::Mem(address) => {
-            match told_size(address_from(Bits::B64, DispSize::D0, address.inside)) {
+            match told_size(address_from(Bits::B64, DispSize::D0, &address.inside)) {
                 None => true,
                 Some(size) => same_bits(size, asize),
             }
@@ -96,10 +97,10 @@ pub fn size_allowed(bits: Bits, row: &Row, words: &IntelWords, asize: Option<Bit
             None => false,
             Some(a) => {
                 has_address_size(bits, a)
-                    && text_agrees(a, words.ops[0])
-                    && text_agrees(a, words.ops[1])
-                    && text_agrees(a, words.ops[2])
-                    && text_agrees(a, words.ops[3])
+                    && text_agrees(a, &words.ops[0])
+                    && text_agrees(a, &words.ops[1])
+                    && text_agrees(a, &words.ops[2])
+                    && text_agrees(a, &words.ops[3])
             }
         }
     } else {
@@ -107,27 +108,30 @@ pub fn size_allowed(bits: Bits, row: &Row, words: &IntelWords, asize: Option<Bit
     }
 }
 
-/// Whether the address of an operand offers a displacement of this size.
+/// Whether an address by its words offers a displacement of this size to the operand of a kind.
+// A function of its own, so that an operand that is no address costs a test alone.
+#[inline(never)]
 #[tactic(auto, unfolding(crate::specs::Possible::text_offers))]
-fn text_offers(
+fn address_offers(
     bits: Bits,
     asize: Option<Bits>,
     size: DispSize,
-    method: Method,
-    text: OperandText,
+    kind: OpKind,
+    address: &AddressText,
 ) -> bool
-    ensures { result ≡ spec.text_offers bits asize size method text }
+    ensures { result ≡ spec.text_offers bits asize size (method_of kind) (OperandText.Mem address.now) }
 {
-    match text {
-        OperandText::Mem(address) => {
-            let memory = address_from(asize.unwrap_or(bits), size, address.inside);
-            displacement_suits(written_size(bits, asize, memory), method, memory)
-        }
-        _ => true,
-    }
+    let memory = address_from(asize.unwrap_or(bits), size, &address.inside);
+    displacement_suits(
+        written_size(bits, asize, memory),
+        method_of_kind(kind),
+        memory,
+    )
 }
 
 /// Whether the address of operand `n`, if it is one, offers a displacement of this size.
+#[inline]
+#[tactic(auto, unfolding(crate::specs::Possible::text_offers))]
 fn nth_offers(
     bits: Bits,
     row: &Row,
@@ -139,13 +143,10 @@ fn nth_offers(
     requires { n < 4 }
     ensures { result ≡ spec.nth_offers bits row.now words.now asize size n }
 {
-    text_offers(
-        bits,
-        asize,
-        size,
-        method_of_kind(kind_at(row, n)),
-        words.ops[n],
-    )
+    match &words.ops[n] {
+        OperandText::Mem(address) => address_offers(bits, asize, size, kind_at(row, n), address),
+        _ => true,
+    }
 }
 
 /// Returns whether the addresses of an instruction of the row with these words can have this displacement size.

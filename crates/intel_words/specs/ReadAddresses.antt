@@ -112,6 +112,11 @@ sized_in (Some size) text = address_in size text
 
 -- ---- an operand
 
+-- what stands at a place, where something was written to it
+abbrev pub written_operand : Option (Unit {0}) → OperandText → Option OperandText
+written_operand None place = None
+written_operand (Some done) place = Some place
+
 -- a far pointer of a selector and an offset, where both are numbers
 unfoldable pub far_by : Option ℕ → Option ℕ → Option OperandText
 far_by (Some selector) (Some offset) = Some (Far selector offset)

@@ -62,6 +62,11 @@ behind_size_word letter text = skip_if (is_some (size_behind letter (word text))
 
 -- ---- operands
 
+-- the operands that stand at their places, where something was written to each
+abbrev pub written_operands : Option (Unit {0}) → List OperandText → Option (List OperandText)
+written_operands None places = None
+written_operands (Some done) places = Some places
+
 -- four operands together, where each was read
 unfoldable pub four : Option OperandText → Option OperandText → Option OperandText → Option OperandText → Option (List OperandText)
 four (Some a) (Some b) (Some c) (Some d) = Some (a ∷ b ∷ c ∷ d ∷ [])

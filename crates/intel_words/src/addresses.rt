@@ -1,13 +1,24 @@
 //! Reads what is inside the brackets of an address.
 
-ghost use Rattle.std.specs.Prelude.{◌≡◌};
+ghost use Rattle.std.specs.Prelude.{◌≡◌, Some};
+ghost use Rattle.intel_words.specs.Scanning as scanning;
+ghost use Rattle.intel_words.specs.ReadRegisters as registers;
 ghost use Rattle.intel_words.specs.ReadAddresses as spec;
 
 use crate::numbers::{decimal_digit, number_named};
 use crate::registers::register_named;
-use crate::scanning::{behind, first, rest, word};
-use crate::words::{Inside, SignedText, SumText};
-use x86_values::Register;
+use crate::scanning::{first, rest, split_word, word};
+use crate::words::{AddressText, Inside, OperandText, SignedText, SizeName, SumText};
+use x86_values::{Register, Segment};
+
+/// What stands in front of the brackets of an address.
+#[derive(Clone, Copy)]
+pub struct AddressFront {
+    /// The size word.
+    pub size: SizeName,
+    /// The segment.
+    pub seg: Option<Segment>,
+}
 
 /// A displacement of this sign.
 #[inline]
@@ -40,92 +51,146 @@ fn signed_in(text: &[u8]) -> Option<Option<SignedText>>
     }
 }
 
-/// Reads registers, a scale and the displacement after them.
+/// Writes the address of registers, a scale and the displacement after them.
 #[inline]
-#[tactic(auto, unfolding(crate::specs::ReadAddresses::sum_with))]
-fn sum_with(
+#[tactic(auto, unfolding(crate::specs::ReadAddresses::sum_with, crate::specs::ReadAddresses::address_by))]
+fn sum_into(
+    front: AddressFront,
     base: Option<Register>,
     index: Option<Register>,
     scale: Option<u8>,
     disp: Option<Option<SignedText>>,
-) -> Option<Inside>
-    ensures { result ≡ spec.sum_with base index scale disp }
+    out: &mut OperandText,
+) -> Option<()>
+    ensures { spec.address_by front.size front.seg (spec.sum_with base index scale disp) ≡ spec.written_operand result out.new }
 {
     match disp {
         None => None,
-        Some(disp) => Some(Inside::Sum(SumText {
-            base,
-            index,
-            scale,
-            disp,
-        })),
+        Some(disp) => {
+            *out = OperandText::Mem(AddressText {
+                size: front.size,
+                seg: front.seg,
+                inside: Inside::Sum(SumText {
+                    base,
+                    index,
+                    scale,
+                    disp,
+                }),
+            });
+            Some(())
+        }
     }
 }
 
 /// Behind the star and the scale.
 #[inline]
-#[tactic(auto, unfolding(crate::specs::ReadAddresses::scaled_by))]
-fn scaled_by(
+#[tactic(auto, unfolding(crate::specs::ReadAddresses::scaled_by, crate::specs::ReadAddresses::address_by))]
+fn scaled_into(
+    front: AddressFront,
     base: Option<Register>,
     index: Option<Register>,
     scale: Option<u8>,
     text: &[u8],
-) -> Option<Inside>
-    ensures { result ≡ spec.scaled_by base index scale text.now }
+    out: &mut OperandText,
+) -> Option<()>
+    ensures { spec.address_by front.size front.seg (spec.scaled_by base index scale text.now) ≡ spec.written_operand result out.new }
 {
     match scale {
         None => None,
-        Some(scale) => sum_with(base, index, Some(scale), signed_in(text)),
+        Some(scale) => sum_into(front, base, index, Some(scale), signed_in(text), out),
     }
 }
 
 /// Behind an index: its scale, and the displacement.
 #[tactic(auto, unfolding(crate::specs::ReadAddresses::behind_index))]
-fn behind_index(base: Option<Register>, index: Option<Register>, text: &[u8]) -> Option<Inside>
-    ensures { result ≡ spec.behind_index base index text.now }
+fn behind_index_into(
+    front: AddressFront,
+    base: Option<Register>,
+    index: Option<Register>,
+    text: &[u8],
+    out: &mut OperandText,
+) -> Option<()>
+    ensures { spec.address_by front.size front.seg (spec.behind_index base index text.now) ≡ spec.written_operand result out.new }
 {
     if first(text) == b'*' {
-        scaled_by(
-            base,
-            index,
-            decimal_digit(first(rest(text))),
-            rest(rest(text)),
-        )
+        let scale = decimal_digit(first(rest(text)));
+        scaled_into(front, base, index, scale, rest(rest(text)), out)
     } else {
-        sum_with(base, index, None, signed_in(text))
+        sum_into(front, base, index, None, signed_in(text), out)
     }
 }
 
 /// Reads an index after a base.
 #[inline]
-#[tactic(auto, unfolding(crate::specs::ReadAddresses::index_by))]
-fn index_by(base: Option<Register>, index: Option<Register>, text: &[u8]) -> Option<Inside>
-    ensures { result ≡ spec.index_by base index text.now }
+#[tactic(auto, unfolding(crate::specs::ReadAddresses::index_by, crate::specs::ReadAddresses::address_by))]
+fn index_into(
+    front: AddressFront,
+    base: Option<Register>,
+    index: Option<Register>,
+    text: &[u8],
+    out: &mut OperandText,
+) -> Option<()>
+    ensures { spec.address_by front.size front.seg (spec.index_by base index text.now) ≡ spec.written_operand result out.new }
 {
     match index {
         None => None,
-        Some(index) => behind_index(base, Some(index), text),
+        Some(index) => behind_index_into(front, base, Some(index), text, out),
     }
 }
 
+/// Reads the second register, which follows a plus, and what is behind it.
+#[inline]
+fn second_into(
+    front: AddressFront,
+    base: Register,
+    text: &[u8],
+    out: &mut OperandText,
+) -> Option<()>
+    ensures { spec.address_by front.size front.seg (spec.index_by (Some base) (registers.register_named (scanning.word text.now)) (scanning.rest_behind text.now))
+        ≡ spec.written_operand result out.new }
+{
+    let (name, after) = split_word(text);
+    index_into(front, Some(base), register_named(name), after, out)
+}
+
 /// Reads what follows the first register: a star if it is an index, a plus and a second register if it is a base, or the displacement.
-#[tactic(auto, unfolding(crate::specs::ReadAddresses::sum_by))]
-fn sum_by(register: Option<Register>, text: &[u8]) -> Option<Inside>
-    ensures { result ≡ spec.sum_by register text.now }
+#[tactic(auto, unfolding(crate::specs::ReadAddresses::sum_by, crate::specs::ReadAddresses::address_by))]
+fn registers_into(
+    front: AddressFront,
+    register: Option<Register>,
+    text: &[u8],
+    out: &mut OperandText,
+) -> Option<()>
+    ensures { spec.address_by front.size front.seg (spec.sum_by register text.now) ≡ spec.written_operand result out.new }
 {
     match register {
         None => None,
         Some(r) => if first(text) == b'*' {
-            behind_index(None, Some(r), text)
+            behind_index_into(front, None, Some(r), text, out)
         } else if first(text) == b'+' && b'a' <= first(rest(text)) {
-            index_by(
-                Some(r),
-                register_named(word(rest(text))),
-                behind(rest(text)),
-            )
+            second_into(front, r, rest(text), out)
         } else {
-            sum_with(Some(r), None, None, signed_in(text))
+            sum_into(front, Some(r), None, None, signed_in(text), out)
         },
+    }
+}
+
+/// Writes the address of what is inside its brackets, if that was read.
+#[inline]
+#[tactic(auto, unfolding(crate::specs::ReadAddresses::address_by))]
+fn address_into(front: AddressFront, inside: Option<Inside>, out: &mut OperandText) -> Option<()>
+    ensures { spec.address_by front.size front.seg inside ≡ spec.written_operand result out.new }
+{
+    match inside {
+        None => None,
+        Some(inside) => {
+            *out = OperandText::Mem(AddressText {
+                size: front.size,
+                seg: front.seg,
+                inside,
+            });
+            Some(())
+        }
     }
 }
 
@@ -142,6 +207,7 @@ fn rel_by(eip: bool, target: Option<u64>) -> Option<Inside>
 }
 
 /// Reads a target after `rel` or `rel32`.
+#[inline]
 #[tactic(auto, unfolding(crate::specs::ReadAddresses::relative_in))]
 fn relative_in(name: &[u8], text: &[u8]) -> Option<Inside>
     ensures { result ≡ spec.relative_in name.now text.now }
@@ -155,18 +221,19 @@ fn relative_in(name: &[u8], text: &[u8]) -> Option<Inside>
     }
 }
 
-/// Returns what is inside the brackets, given the text after the opening one.
+/// Writes an address to `out`, given what stands in front of its brackets and the text after the opening one. If there is none, `out` may hold anything.
 #[tactic(auto, unfolding(crate::specs::ReadAddresses::inside_in))]
-pub fn inside_in(text: &[u8]) -> Option<Inside>
-    ensures { result ≡ spec.inside_in text.now }
+pub fn inside_into(front: AddressFront, text: &[u8], out: &mut OperandText) -> Option<()>
+    ensures { spec.address_by front.size front.seg (spec.inside_in text.now) ≡ spec.written_operand result out.new }
 {
-    if first(behind(text)) == b' ' {
-        relative_in(word(text), rest(behind(text)))
+    let (name, after) = split_word(text);
+    if first(after) == b' ' {
+        address_into(front, relative_in(name, rest(after)), out)
     } else if first(text) == b']' {
-        Some(Inside::Nothing)
+        address_into(front, Some(Inside::Nothing), out)
     } else if first(text) == b'0' {
-        number_named(word(text)).map(Inside::Lone)
+        address_into(front, number_named(name).map(Inside::Lone), out)
     } else {
-        sum_by(register_named(word(text)), behind(text))
+        registers_into(front, register_named(name), after, out)
     }
 }

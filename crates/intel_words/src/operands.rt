@@ -1,13 +1,13 @@
 //! Reading operands.
 
-ghost use Rattle.std.specs.Prelude.{◌≡◌};
+ghost use Rattle.std.specs.Prelude.{◌≡◌, option_map};
 ghost use Rattle.intel_words.specs.ReadAddresses as spec;
 
-use crate::addresses::inside_in;
+use crate::addresses::{AddressFront, inside_into};
 use crate::numbers::number_named;
 use crate::registers::{register_named, segment_named};
-use crate::scanning::{behind, first, rest, word};
-use crate::words::{AddressText, Inside, OperandText, SizeName};
+use crate::scanning::{first, rest, split_word, word};
+use crate::words::{OperandText, SizeName};
 use x86_values::{Register, Segment};
 
 /// The size of a size word.
@@ -40,121 +40,151 @@ fn size_named(name: &[u8]) -> Option<SizeName>
     }
 }
 
-/// Returns an address whose brackets have been read.
+/// Writes an address after a segment, given the text of its brackets.
 #[inline]
-#[tactic(auto, unfolding(crate::specs::ReadAddresses::address_by))]
-fn address_by(size: SizeName, seg: Option<Segment>, inside: Option<Inside>) -> Option<OperandText>
-    ensures { result ≡ spec.address_by size seg inside }
-{
-    match inside {
-        None => None,
-        Some(inside) => Some(OperandText::Mem(AddressText { size, seg, inside })),
-    }
-}
-
-/// Reads brackets after a segment.
 #[tactic(auto, unfolding(crate::specs::ReadAddresses::address_at))]
-fn address_at(size: SizeName, seg: Option<Segment>, text: &[u8]) -> Option<OperandText>
-    ensures { result ≡ spec.address_at size seg text.now }
+fn address_at_into(
+    size: SizeName,
+    seg: Option<Segment>,
+    text: &[u8],
+    out: &mut OperandText,
+) -> Option<()>
+    ensures { spec.address_at size seg text.now ≡ spec.written_operand result out.new }
 {
     match seg {
         None => None,
         Some(seg) => if first(text) == b'[' {
-            address_by(size, Some(seg), inside_in(rest(text)))
+            inside_into(
+                AddressFront {
+                    size,
+                    seg: Some(seg),
+                },
+                rest(text),
+                out,
+            )
         } else {
             None
         },
     }
 }
 
-/// Brackets with or without a segment.
+/// Writes the address of brackets with or without a segment.
+// Each of these functions writes `out` where all is known: an operand that is handed on is copied.
 #[tactic(auto, unfolding(crate::specs::ReadAddresses::address_in))]
-fn address_in(size: SizeName, text: &[u8]) -> Option<OperandText>
-    ensures { result ≡ spec.address_in size text.now }
+fn address_into(size: SizeName, text: &[u8], out: &mut OperandText) -> Option<()>
+    ensures { spec.address_in size text.now ≡ spec.written_operand result out.new }
 {
     if first(text) == b'[' {
-        address_by(size, None, inside_in(rest(text)))
-    } else if first(behind(text)) == b':' {
-        address_at(size, segment_named(word(text)), rest(behind(text)))
+        return inside_into(AddressFront { size, seg: None }, rest(text), out);
+    }
+    let (name, after) = split_word(text);
+    if first(after) == b':' {
+        address_at_into(size, segment_named(name), rest(after), out)
     } else {
         None
     }
 }
 
-/// Reads an address after its size word.
+/// Writes an address after its size word.
 #[inline]
 #[tactic(auto, unfolding(crate::specs::ReadAddresses::sized_in))]
-fn sized_in(size: Option<SizeName>, text: &[u8]) -> Option<OperandText>
-    ensures { result ≡ spec.sized_in size text.now }
+fn sized_into(size: Option<SizeName>, text: &[u8], out: &mut OperandText) -> Option<()>
+    ensures { spec.sized_in size text.now ≡ spec.written_operand result out.new }
 {
     match size {
         None => None,
-        Some(size) => address_in(size, text),
+        Some(size) => address_into(size, text, out),
     }
 }
 
-/// A selector and an offset.
+/// Writes the far pointer of a selector and an offset.
 #[inline]
 #[tactic(auto, unfolding(crate::specs::ReadAddresses::far_by))]
-fn far_by(selector: Option<u64>, offset: Option<u64>) -> Option<OperandText>
-    ensures { result ≡ spec.far_by selector offset }
+fn far_by_into(selector: Option<u64>, offset: Option<u64>, out: &mut OperandText) -> Option<()>
+    ensures { spec.far_by selector offset ≡ spec.written_operand result out.new }
 {
     match (selector, offset) {
-        (Some(selector), Some(offset)) => Some(OperandText::Far { selector, offset }),
+        (Some(selector), Some(offset)) => {
+            *out = OperandText::Far { selector, offset };
+            Some(())
+        }
         _ => None,
     }
 }
 
-/// A register or a number.
+/// Writes a number, if there is one.
+#[inline]
+fn number_into(number: Option<u64>, out: &mut OperandText) -> Option<()>
+    ensures { option_map OperandText.Number number ≡ spec.written_operand result out.new }
+{
+    match number {
+        None => None,
+        Some(number) => {
+            *out = OperandText::Number(number);
+            Some(())
+        }
+    }
+}
+
+/// Writes a register, if there is one.
+#[inline]
+fn register_into(register: Option<Register>, out: &mut OperandText) -> Option<()>
+    ensures { option_map OperandText.Reg register ≡ spec.written_operand result out.new }
+{
+    match register {
+        None => None,
+        Some(register) => {
+            *out = OperandText::Reg(register);
+            Some(())
+        }
+    }
+}
+
+/// Writes a register or a number.
+#[inline]
 #[tactic(auto, unfolding(crate::specs::ReadAddresses::plain_in))]
-fn plain_in(name: &[u8]) -> Option<OperandText>
-    ensures { result ≡ spec.plain_in name.now }
+fn plain_into(name: &[u8], out: &mut OperandText) -> Option<()>
+    ensures { spec.plain_in name.now ≡ spec.written_operand result out.new }
 {
     if first(name) == b'0' {
-        number_named(name).map(OperandText::Number)
+        number_into(number_named(name), out)
     } else {
-        register_named(name).map(OperandText::Reg)
+        register_into(register_named(name), out)
     }
 }
 
-/// Two numbers with a colon between them.
-#[tactic(auto, unfolding(crate::specs::ReadAddresses::far_in))]
-fn far_in(text: &[u8]) -> Option<OperandText>
-    ensures { result ≡ spec.far_in text.now }
+/// Writes the operand of a text that is not empty. Most are registers and numbers, which are one word.
+#[tactic(auto, unfolding(crate::specs::ReadAddresses::some_operand, crate::specs::ReadAddresses::far_in))]
+fn some_operand_into(text: &[u8], out: &mut OperandText) -> Option<()>
+    ensures { spec.some_operand text.now ≡ spec.written_operand result out.new }
 {
-    far_by(
-        number_named(word(text)),
-        number_named(word(rest(behind(text)))),
-    )
-}
-
-/// The operand of a text that is not empty.
-#[tactic(auto, unfolding(crate::specs::ReadAddresses::some_operand))]
-fn some_operand(text: &[u8]) -> Option<OperandText>
-    ensures { result ≡ spec.some_operand text.now }
-{
-    if first(behind(text)) == b' ' {
-        sized_in(size_named(word(text)), rest(behind(text)))
+    let (name, after) = split_word(text);
+    if first(after) == b' ' {
+        sized_into(size_named(name), rest(after), out)
     } else if first(text) == b'[' {
-        address_in(SizeName::None, text)
-    } else if first(behind(text)) == b':' {
+        address_into(SizeName::None, text, out)
+    } else if first(after) == b':' {
         if first(text) == b'0' {
-            far_in(text)
+            far_by_into(number_named(name), number_named(word(rest(after))), out)
         } else {
-            address_in(SizeName::None, text)
+            address_into(SizeName::None, text, out)
         }
     } else {
-        plain_in(word(text))
+        plain_into(name, out)
     }
 }
 
-/// Returns the operand that a text stands for.
+/// Writes the operand that a text stands for to `out`. If there is none, `out` may hold anything.
+#[inline]
 #[tactic(auto, unfolding(crate::specs::ReadAddresses::operand_in))]
-pub fn operand_in(text: &[u8]) -> Option<OperandText>
-    ensures { result ≡ spec.operand_in text.now }
+pub fn operand_into(text: &[u8], out: &mut OperandText) -> Option<()>
+    ensures { spec.operand_in text.now ≡ spec.written_operand result out.new }
 {
     match text {
-        [] => Some(OperandText::Absent),
-        [_, _rest @ ..] => some_operand(text),
+        [] => {
+            *out = OperandText::Absent;
+            Some(())
+        }
+        [_, _rest @ ..] => some_operand_into(text, out),
     }
 }

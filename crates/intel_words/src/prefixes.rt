@@ -1,15 +1,15 @@
 //! Reading the words in front of the name.
 
 ghost use Rattle.std.specs.Prelude.{◌≡◌};
-ghost use Rattle.intel_words.specs.Scanning.{word};
+ghost use Rattle.intel_words.specs.Scanning.{word, rest_behind};
 ghost use Rattle.intel_words.specs.ReadRegisters as registers;
 ghost use Rattle.intel_words.specs.ReadWords as spec;
 
 use crate::registers::segment_named;
-use crate::scanning::{skip_if, word};
+use crate::scanning::{cut_behind_word, skip_if};
 use x86_values::{Bits, Rep, Segment};
 
-/// The words before a name, and the text from the name on.
+/// The words before a name, the name, and the text behind it.
 #[derive(Clone, Copy)]
 pub struct Prefixes<'t> {
     pub lock: bool,
@@ -17,7 +17,8 @@ pub struct Prefixes<'t> {
     pub seg: Option<Segment>,
     pub asize: Option<Bits>,
     pub osize: Option<Bits>,
-    pub text: &'t [u8],
+    pub name: &'t [u8],
+    pub behind: &'t [u8],
 }
 
 /// Whether a word is that of LOCK.
@@ -93,24 +94,27 @@ pub fn read_prefixes(text: &[u8]) -> Prefixes
     ensures seg { result.seg ≡ registers.segment_of_word (word (spec.behind_repeat (spec.behind_lock text.now))) }
     ensures asize { result.asize ≡ spec.size_behind 97 (word (spec.behind_segment (spec.behind_repeat (spec.behind_lock text.now)))) }
     ensures osize { result.osize ≡ spec.size_behind 111 (word (spec.behind_size_word 97 (spec.behind_segment (spec.behind_repeat (spec.behind_lock text.now))))) }
-    ensures text { result.text.now ≡ spec.behind_size_word 111 (spec.behind_size_word 97 (spec.behind_segment (spec.behind_repeat (spec.behind_lock text.now)))) }
+    ensures name { result.name.now ≡ word (spec.behind_size_word 111 (spec.behind_size_word 97 (spec.behind_segment (spec.behind_repeat (spec.behind_lock text.now))))) }
+    ensures behind { result.behind.now ≡ rest_behind (spec.behind_size_word 111 (spec.behind_size_word 97 (spec.behind_segment (spec.behind_repeat (spec.behind_lock text.now))))) }
 {
-    let lock = is_lock(word(text));
-    let text = skip_if(lock, text);
-    let rep = repeat_named(word(text));
-    let text = skip_if(is_repeat(rep), text);
-    let seg = segment_named(word(text));
-    let text = skip_if(seg.is_some(), text);
-    let asize = size_behind(b'a', word(text));
-    let text = skip_if(asize.is_some(), text);
-    let osize = size_behind(b'o', word(text));
-    let text = skip_if(osize.is_some(), text);
+    let from = cut_behind_word(text);
+    let lock = is_lock(from.word);
+    let from = skip_if(lock, from);
+    let rep = repeat_named(from.word);
+    let from = skip_if(is_repeat(rep), from);
+    let seg = segment_named(from.word);
+    let from = skip_if(seg.is_some(), from);
+    let asize = size_behind(b'a', from.word);
+    let from = skip_if(asize.is_some(), from);
+    let osize = size_behind(b'o', from.word);
+    let from = skip_if(osize.is_some(), from);
     Prefixes {
         lock,
         rep,
         seg,
         asize,
         osize,
-        text,
+        name: from.word,
+        behind: from.behind,
     }
 }

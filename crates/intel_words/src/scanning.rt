@@ -66,14 +66,6 @@ pub fn word(text: &[u8]) -> &[u8]
     split_word(text).0
 }
 
-/// Returns what follows the first word.
-#[inline]
-pub fn behind(text: &[u8]) -> &[u8]
-    ensures { result.now ≡ spec.rest_behind text.now }
-{
-    split_word(text).1
-}
-
 /// Returns the first byte, or 0 if there is none.
 #[inline]
 #[tactic(auto, unfolding(crate::specs::Scanning::first))]
@@ -108,11 +100,39 @@ pub fn split_operand(text: &[u8]) -> (&[u8], &[u8])
     (token, rest(rest(behind)))
 }
 
-/// Returns what follows a word and the byte that ends it, if the word is there.
+/// A text, its first word, and what follows that.
+#[derive(Clone, Copy)]
+pub struct Cut<'t> {
+    pub text: &'t [u8],
+    pub word: &'t [u8],
+    pub behind: &'t [u8],
+}
+
+/// Cuts a text behind its first word.
+#[inline]
+pub fn cut_behind_word<'t>(text: &'t [u8]) -> Cut<'t>
+    ensures text { result.text.now ≡ text.now }
+    ensures word { result.word.now ≡ spec.word text.now }
+    ensures behind { result.behind.now ≡ spec.rest_behind text.now }
+{
+    let (word, behind) = split_word(text);
+    Cut { text, word, behind }
+}
+
+/// Cuts what follows a word and the byte that ends it, if the word is there.
+// A text is searched for the end of its first word once, however many words are compared with it.
 #[inline]
 #[tactic(auto, unfolding(crate::specs::Scanning::skip_if))]
-pub fn skip_if(passed: bool, text: &[u8]) -> &[u8]
-    ensures { result.now ≡ spec.skip_if passed text.now }
+pub fn skip_if<'t>(passed: bool, from: Cut<'t>) -> Cut<'t>
+    requires word { from.word.now ≡ spec.word from.text.now }
+    requires behind { from.behind.now ≡ spec.rest_behind from.text.now }
+    ensures text { result.text.now ≡ spec.skip_if passed from.entry.text.now }
+    ensures word { result.word.now ≡ spec.word (spec.skip_if passed from.entry.text.now) }
+    ensures behind { result.behind.now ≡ spec.rest_behind (spec.skip_if passed from.entry.text.now) }
 {
-    if passed { rest(behind(text)) } else { text }
+    if passed {
+        cut_behind_word(rest(from.behind))
+    } else {
+        from
+    }
 }

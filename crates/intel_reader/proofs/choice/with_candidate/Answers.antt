@@ -1,4 +1,4 @@
-use Rattle.std.proofs.Common.{◌≡◌, true, ap, sym, ◌∙◌}
+use Rattle.std.proofs.Common.{◌≡◌, true, sym, ◌∙◌}
 use Rattle.intel_reader.specs.Lengths.{least_len, is_behind}
 use Rattle.intel_reader.specs.Possible.{displacement_allowed}
 use Rattle.intel_reader.proofs.AllowedWords.{made_given, displacement_there}
@@ -15,5 +15,5 @@ returns-then-not-displacement_allowed-clause-covers c = λ b k e.
 pub returns-then-is_behind-clause-covers : goal.returns-then-is_behind-clause-covers
 returns-then-is_behind-clause-covers c = λ b k e.
     let h : is_behind c.args.best.now c.args.code.0 (least_len c.args.bits c.args.row.now c.args.words.now c.args.size) ≡ true =
-    ap (is_behind c.args.best.now c.args.code.0) (sym c.least_len.ensures) ∙ (sym c.is_behind.ensures ∙ c.if-is_behind.true) in
+    sym c.is_behind.ensures ∙ c.if-is_behind.true in
     left_behind c.args.bits c.args.ip c.args.text.now b c.args.row.now c.args.code c.args.words.now c.args.asize c.args.size c.args.best.now k c.requires.row e h
