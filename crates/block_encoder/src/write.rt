@@ -121,14 +121,14 @@ pub(crate) fn write_blocks(
     for b in 0..spans.len() {
         for _ in 0..spans[b].count {
             let k = starts.len();
-            let fragment = laid.fragments[k];
+            let fragment = &laid.fragments[k];
             let own = ready_of(ready, k);
             write_item(
                 bits,
                 k,
                 &items[k].instr,
                 &branches[k],
-                &fragment,
+                fragment,
                 own,
                 &mut bytes,
             )?;

@@ -7,11 +7,11 @@ ghost use Rattle.moving_run.specs.Read as spec;
 
 use crate::command_words::BlockWords;
 use branch_sizes::{BlockSpan, MOST_ITEMS};
-use decoder::DecodeError;
+use decoder::{DecodeError, UNREAD};
 use move_goals::{Placed, passes};
 use std::alloc::{AllocError, Global};
 use sweep::sweep_text::laws::items_stand_in_turn;
-use sweep::sweep_text::read_at;
+use sweep::sweep_text::read_onto;
 use thiserror::Error;
 use x86_values::Bits;
 
@@ -113,9 +113,11 @@ fn read_block(
     items_stand_in_turn();
     let mut count: u32 = 0;
     let mut at: usize = 0;
+    let mut reading = Ok(UNREAD);
     while at < bytes.len() {
         let (_, rest) = bytes.split_at(at);
-        match read_at(bits, base, at, rest) {
+        read_onto(bits, base, at, rest, &mut reading);
+        match &reading {
             Ok(d) => {
                 let ip = base.wrapping_add(at as u64);
                 keep(
@@ -131,7 +133,10 @@ fn read_block(
             }
             Err(error) => {
                 let offset = (start + at) as u64;
-                return Err(CodeError::BadCode { offset, error });
+                return Err(CodeError::BadCode {
+                    offset,
+                    error: *error,
+                });
             }
         }
     }

@@ -11,7 +11,7 @@ use crate::sweep_text::{Chunk, Lines, append_line, item_len, read_onto, stop_of}
 use crate::window::WINDOW_LEN;
 use byte_ports::{Failed, Sink};
 use decoder::{DecodeError, UNREAD};
-use x86_values::Bits;
+use x86_values::{Bits, Decoded};
 
 /// The most bytes of an instruction (Intel SDM volume 2, 2.3.11).
 const LONGEST: usize = 15;
@@ -36,13 +36,14 @@ pub struct Handled {
     pub stop: Option<DecodeError>,
 }
 
-/// Writes or buffers the line of the item at the front of some bytes, if the command has one.
+/// Writes or buffers the line of the item at the front of some bytes, if the command has one. The item is read to a place that may hold any other.
 fn write_item<K: Sink>(
     bits: Bits,
     base: u64,
     lines: Lines,
     at: usize,
     rest: &[u8],
+    reading: &mut Result<Decoded, DecodeError>,
     pending: &mut Chunk,
     out: &mut K,
 ) -> Result<Step, Failed>
@@ -53,14 +54,13 @@ fn write_item<K: Sink>(
     ensures last { OnErr result (PutsToFault K.put_gives out.old out.new) }
     ensures cause { HasCause (K.faults out.old) (K.faults out.new) result }
 {
-    let mut reading = Ok(UNREAD);
-    read_onto(bits, base, at, rest, &mut reading);
-    if let Some(error) = stop_of(lines, &reading) {
+    read_onto(bits, base, at, rest, reading);
+    if let Some(error) = stop_of(lines, reading) {
         return Ok(Step::Stop { error });
     }
     make_room(pending, out)?;
-    let count = item_len(&reading);
-    append_line(pending, bits, base, lines, at, &rest[..count], &reading);
+    let count = item_len(reading);
+    append_line(pending, bits, base, lines, at, &rest[..count], reading);
     Ok(Step::Line { count })
 }
 
@@ -96,11 +96,21 @@ pub(crate) fn write_ready<K: Sink>(
     held_texts_arrive();
     puts_join::<K>();
     let mut pending = Chunk::new();
+    let mut reading = Ok(UNREAD);
     let mut used = 0;
     let mut count = 0;
     'items: while is_ready(bytes.len() - used, ended) {
         let (_, rest) = bytes.split_at(used);
-        match write_item(bits, base, lines, at + used, rest, &mut pending, out)? {
+        match write_item(
+            bits,
+            base,
+            lines,
+            at + used,
+            rest,
+            &mut reading,
+            &mut pending,
+            out,
+        )? {
             Step::Line { count: taken } => {
                 used += taken;
                 count += 1;

@@ -76,6 +76,7 @@ fn append_column(out: &mut Chunk, bytes: &[u8])
 }
 
 /// Appends the text of what is read at the front of some bytes: an instruction, or the single first byte.
+#[inline(always)]
 #[tactic(auto, unfolding(crate::specs::SweepText::Listing::reading_text))]
 fn append_text(
     out: &mut Chunk,

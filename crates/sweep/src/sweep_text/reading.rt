@@ -7,7 +7,7 @@ ghost use Rattle.opcode_rows.specs.Sweep as spec;
 ghost use Rattle.sweep.specs.SweepText.Sweeping.{TakesSome};
 
 use decoder::reading_laws::wrapped_addresses_read_alike;
-use decoder::{DecodeError, UNREAD, decode_onto};
+use decoder::{DecodeError, decode_onto};
 use x86_values::{Bits, Decoded, wrap};
 
 /// Decodes the bytes at an offset of code whose first byte has the address `base`. Addresses wrap in the mode.
@@ -22,7 +22,7 @@ pub fn read_at(bits: Bits, base: u64, offset: usize, bytes: &[u8]) -> Result<Dec
     decoder::read_at(bits, base, offset, bytes)
 }
 
-/// Decodes like [`read_at`], but writes the result to `out`, so that no instruction is copied.
+/// Decodes like [`read_at`], but writes the result to `out`, so that no instruction is copied. An instruction that is there is written over.
 #[inline(always)]
 #[tactic(auto, using(crate::proofs::SweepText::Covering::takes_some))]
 pub fn read_onto(
@@ -39,13 +39,12 @@ pub fn read_onto(
 {
     wrapped_addresses_read_alike();
     let address = wrap(bits, u128::from(base) + offset as u128);
-    *out = Ok(UNREAD);
     match out {
         Ok(place) => match decode_onto(bits, address, bytes, place) {
             Ok(()) => {}
             Err(error) => *out = Err(error),
         },
-        Err(_) => {}
+        Err(_) => *out = read_at(bits, base, offset, bytes),
     }
 }
 

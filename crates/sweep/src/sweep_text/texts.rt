@@ -48,6 +48,7 @@ pub(crate) fn append_single_byte(out: &mut Chunk, syntax: Style, byte: u8)
 }
 
 /// Appends the text of a well-formed instruction.
+#[inline(always)]
 pub(crate) fn append_instr_text(out: &mut Chunk, syntax: Style, bits: Bits, instr: &Instr)
     requires well { IsTrue (is_well_formed instr.now) }
     requires room { array_vec_len out.old + TEXT_LEN ≤ CHUNK_LEN }

@@ -17,17 +17,17 @@ item_here c =
     (omega (arith, c.loop-test.true, c.loop.invariant.count_is)) c.len-k.result (c.len-k.ensures ∙ c.loop.starts.ok.0)
 
 -- what holds of the end of a block, whose items are written
-end_here : (c : After-len-first) → EndFacts c.args.plan.now c.args.laid.now c.loop-b.b c.len-first.result c.index-in-loop-b.result.now
+end_here : (c : After-len-first) → EndFacts c.args.plan.now c.args.laid.now c.loop-b.b c.len-first.result c.index.result.now
 end_here c =
     end_facts c.laws_below.ensures c.args.bits c.args.items.now c.args.plan.now c.args.laid.now c.spans-spans.ensures.plan c.requires.plan c.requires.laid c.requires.ends
     c.loop-b.b c.loop.counter c.loop.bytes.items c.loop.starts.items c.loop.forms.items c.loop-b.slots.items c.loop-b.ends.items
     (c.loop.invariant.written c.requires.laid.0 c.requires.laid.2) (omega (arith, c.loop-b-test.true, ap length c.spans-spans.ensures.spans))
     (omega (arith, c.loop-test.false, c.loop.auto.counter-end, c.loop.invariant.count_is)) c.len-first.result (c.len-first.ensures ∙ c.loop-b.slots.ok.0)
-    c.index-in-loop-b.result.now c.index-in-loop-b.ensures
+    c.index.result.now c.index.ensures
 
-pub index-requires : goal.index-requires
-index-requires c =
-    let f = item_here (goal.at.index-requires c).After-len-k in
+pub index-fragment-requires : goal.index-fragment-requires
+index-fragment-requires c =
+    let f = item_here (goal.at.index-fragment-requires c).After-len-k in
     omega (arith, f.in_fragments, c.args.laid.now.fragments.ok.0)
 
 pub offset_bounds-items-k : goal.offset_bounds-items-k
@@ -53,7 +53,7 @@ bounds-branches-k c =
 pub write_item-requires-clause-fragment : goal.write_item-requires-clause-fragment
 write_item-requires-clause-fragment c =
     let f = item_here (goal.at.write_item-requires-clause-fragment c).After-len-k in
-    f.fragment_for c.index.result.now c.index-branches-k.result c.index.ensures (rw c.items-branches.ensures at c.index-branches-k.is)
+    f.fragment_for c.index-fragment.result.now c.index-branches-k.result c.index-fragment.ensures (rw c.items-branches.ensures at c.index-branches-k.is)
 
 pub write_item-requires-clause-ready : goal.write_item-requires-clause-ready
 write_item-requires-clause-ready c =
@@ -68,13 +68,13 @@ returns-in_err-write_item c =
     rw (p.1, p.2)
     (item_refuses c.laws_below.ensures c.args.bits c.args.items.now c.args.plan.now c.args.laid.now c.spans-spans.ensures.plan c.requires.plan c.requires.laid c.requires.ends
     c.loop-b.b c.loop.counter c.loop.bytes.items c.loop.starts.items c.loop.forms.items c.loop-b.slots.items c.loop-b.ends.items
-    (c.loop.invariant.written c.requires.laid.0 c.requires.laid.2) bl c.len-k.result f c.index.result.now c.index.ensures
+    (c.loop.invariant.written c.requires.laid.0 c.requires.laid.2) bl c.len-k.result f c.index-fragment.result.now c.index-fragment.ensures
     c.loop.bytes.items c.write_item.new.bytes.items c.in_err-write_item.field-0.0 c.in_err-write_item.ensures)
 
 pub overflow_cast-fragment : goal.overflow_cast-fragment
 overflow_cast-fragment c =
     let f = item_here (goal.at.overflow_cast-fragment c).After-len-k in
-    let s = f.fragment_for c.index.result.now c.index-branches-k.result c.index.ensures (rw c.items-branches.ensures at c.index-branches-k.is) in
+    let s = f.fragment_for c.index-fragment.result.now c.index-branches-k.result c.index-fragment.ensures (rw c.items-branches.ensures at c.index-branches-k.is) in
     omega (arith, s.place)
 
 pub loop-preserved : goal.loop-preserved
@@ -85,7 +85,7 @@ loop-preserved c =
       written = λ layout is.
           item_step c.args.bits c.args.items.now c.args.plan.now layout c.loop-b.b c.loop.counter
           c.loop.bytes.items c.loop.starts.items c.loop.forms.items c.loop-b.slots.items c.loop-b.ends.items (c.loop.invariant.written layout is)
-          c.len-k.result f.at c.index.result.now (f.fragment_is c.index.result.now c.index.ensures ∙ is.fragments c.len-k.result f.in_plan)
+          c.len-k.result f.at c.index-fragment.result.now (f.fragment_is c.index-fragment.result.now c.index-fragment.ensures ∙ is.fragments c.len-k.result f.in_plan)
           c.write_item.new.bytes.items c.push.new.self.items c.push-in-loop.new.self.items
           c.in_ok-write_item.ensures.0 c.in_ok-write_item.ensures.1 c.in_ok-push.ensures.items c.in_ok-push-2.ensures.items;
     }
@@ -113,7 +113,7 @@ write_end-requires-clause-images c =
 pub write_end-requires-clause-goals : goal.write_end-requires-clause-goals
 write_end-requires-clause-goals c =
     let f = end_here (goal.at.write_end-requires-clause-goals c).After-len-first in
-    f.goals c.deref-in-loop-b.result.now (c.len-first.result + c.index-in-loop-b.result.now.slots - c.len-first.result)
+    f.goals c.deref-in-loop-b.result.now (c.len-first.result + c.index.result.now.slots - c.len-first.result)
     c.deref-in-loop-b.ensures.value (omega arith)
 
 pub loop-b-preserved : goal.loop-b-preserved
@@ -124,12 +124,12 @@ loop-b-preserved c =
     let f = end_facts c.laws_below.ensures c.args.bits c.args.items.now c.args.plan.now c.args.laid.now c.spans-spans.ensures.plan c.requires.plan c.requires.laid c.requires.ends
     c.loop-b.b c.loop.counter c.loop.bytes.items c.loop.starts.items c.loop.forms.items c.loop-b.slots.items c.loop-b.ends.items
     (c.loop.invariant.written c.requires.laid.0 c.requires.laid.2) bl whole c.len-first.result (c.len-first.ensures ∙ c.loop-b.slots.ok.0)
-    c.index-in-loop-b.result.now c.index-in-loop-b.ensures in
+    c.index.result.now c.index.ensures in
     λ layout is.
     end_step c.laws_below.ensures c.args.bits c.args.items.now c.args.plan.now c.args.laid.now layout is c.loop-b.b c.loop.counter
     c.loop.bytes.items c.loop.starts.items c.loop.forms.items c.loop-b.slots.items c.loop-b.ends.items (c.loop.invariant.written layout is) bl whole
-    c.len-first.result (c.len-first.ensures ∙ c.loop-b.slots.ok.0) c.index-in-loop-b.result.now f.end_is
-    c.deref-in-loop-b.result.now (c.len-first.result + c.index-in-loop-b.result.now.slots - c.len-first.result)
+    c.len-first.result (c.len-first.ensures ∙ c.loop-b.slots.ok.0) c.index.result.now f.end_is
+    c.deref-in-loop-b.result.now (c.len-first.result + c.index.result.now.slots - c.len-first.result)
     c.deref-in-loop-b.ensures.value (omega arith) c.write_end.new.bytes.items c.write_end.new.slots.items c.push-in-loop-b.new.self.items
     c.in_ok-write_end.ensures.bytes c.in_ok-write_end.ensures.slots
     (c.in_ok-push-3.ensures.items ∙ ap (λ n. c.loop-b.ends.items ++ n ∷ []) (c.len-in-loop-b.ensures ∙ c.write_end.new.bytes.ok.0))

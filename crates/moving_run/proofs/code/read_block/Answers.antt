@@ -19,16 +19,16 @@ overflow_add-count c = omega (arith, c.loop-at.invariant.few, c.loop-at.invarian
 
 pub loop-at-preserved : goal.loop-at-preserved
 loop-at-preserved c =
-    let reads = rw c.split_at.ensures.back at c.in-Ok.ensures.reading in
+    let reads = rw (c.split_at.ensures.back, c.in-Ok.is) at c.read_onto.ensures.reading in
     let some : 0 < length c.split_at.result.1.now = omega (arith, c.split_at.ensures.back_len, c.loop-at-test.true) in
-    let takes = rw c.split_at.ensures.back at (c.in-Ok.ensures.takes some) in
+    let takes = rw (c.split_at.ensures.back, c.in-Ok.is) at (c.read_onto.ensures.takes some) in
     rw c.from-at.ensures (block-step c.items_stand_in_turn.ensures _ _ _ c.loop-at.at c.loop-at.count _ _ c.loop-at.items.items _ c.in-Ok.d c.loop-at.invariant c.loop-at-test.true reads takes refl c.in_ok-keep-in-Ok.ensures.kept)
 
 pub returns-in-Err-clause-read : goal.returns-in-Err-clause-read
 returns-in-Err-clause-read c =
-    let reads = rw c.split_at.ensures.back at c.in-Err.ensures.reading in
+    let reads = rw (c.split_at.ensures.back, c.in-Err.is) at c.read_onto.ensures.reading in
     let some : 0 < length c.split_at.result.1.now = omega (arith, c.split_at.ensures.back_len, c.loop-at-test.true) in
-    let takes = rw c.split_at.ensures.back at (c.in-Err.ensures.takes some) in
+    let takes = rw (c.split_at.ensures.back, c.in-Err.is) at (c.read_onto.ensures.takes some) in
     (c.loop-at.at, (block-stop c.items_stand_in_turn.ensures _ _ _ c.loop-at.at c.loop-at.count _ _ _ c.loop-at.invariant reads takes, refl))
 
 pub returns-clause-read : goal.returns-clause-read
