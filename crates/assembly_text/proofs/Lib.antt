@@ -6,3 +6,7 @@ pub mod Items
 pub mod Resolving
 pub mod Telling
 pub mod Going
+pub mod Labelled
+pub mod Finding
+pub mod Settling
+pub mod Filling

@@ -1,31 +1,32 @@
 -- One word more of a text with numbers in place of names.
-use Rattle.std.proofs.Common.{◌≡◌, ℕ, Bool, true, false, zero, suc, max, ◌-◌, ◌<◌, ◌≤◌, List, [], ◌∷◌, ◌++◌, length, take, drop, get_or, None, refl, ap, arith}
+use Rattle.std.proofs.Common.{◌≡◌, ℕ, Bool, true, false, zero, suc, max, ◌-◌, ◌<◌, ◌≤◌, List, [], ◌∷◌, ◌++◌, length, take, drop, get_or, Option, None, refl, ap, arith}
 use Rattle.std.specs.Prelude.{◌==◌, if◌then◌else◌}
 use Rattle.assembly_text.specs.Lines.{lines_in, name_len, quote_behind}
-use Rattle.assembly_text.specs.Constants.{constant_from, bad_from, number_or, part_for, part_len, resolved_from}
+use Rattle.assembly_text.specs.Constants.{constant_from, bad_from, number_or, part_for, part_len, resolved_from, resolved}
 
 -- bytes of a word before are passed
-pub passed : (names : List (List ℕ)) (quote skip : ℕ) (text : List ℕ) → resolved_from names quote skip text ≡ resolved_from names quote 0 (drop skip text)
+pub passed : (numbers : List ℕ → Option ℕ) (quote skip : ℕ) (text : List ℕ)
+    → resolved_from numbers quote skip text ≡ resolved_from numbers quote 0 (drop skip text)
 unfolding resolved_from
-passed names quote zero text = refl
-passed names quote (suc skip) [] = refl
-passed names quote (suc skip) (c ∷ cs) = passed names quote skip cs
+passed numbers quote zero text = refl
+passed numbers quote (suc skip) [] = refl
+passed numbers quote (suc skip) (c ∷ cs) = passed numbers quote skip cs
 
 -- the first word is taken
-pub one_part : (names : List (List ℕ)) (quote n : ℕ) (text : List ℕ) → 0 < n → n ≡ part_len quote text → 0 < length text
-    → resolved_from names quote 0 text ≡ part_for names quote (take n text) ++ resolved_from names (quote_behind quote (get_or text 0 0)) 0 (drop n text)
+pub one_part : (numbers : List ℕ → Option ℕ) (quote n : ℕ) (text : List ℕ) → 0 < n → n ≡ part_len quote text → 0 < length text
+    → resolved_from numbers quote 0 text ≡ part_for numbers quote (take n text) ++ resolved_from numbers (quote_behind quote (get_or text 0 0)) 0 (drop n text)
 unfolding resolved_from
-one_part names quote n [] some is long = absurd (omega arith)
-one_part names quote zero (c ∷ cs) some is long = absurd (omega arith)
-one_part names quote (suc n) (c ∷ cs) some is long =
+one_part numbers quote n [] some is long = absurd (omega arith)
+one_part numbers quote zero (c ∷ cs) some is long = absurd (omega arith)
+one_part numbers quote (suc n) (c ∷ cs) some is long =
     let less : suc n - 1 ≡ n = omega arith in
-    rw (← is, less) (ap (λ (x : List ℕ). part_for names quote (c ∷ take n cs) ++ x) (passed names (quote_behind quote c) n cs))
+    rw (← is, less) (ap (λ (x : List ℕ). part_for numbers quote (c ∷ take n cs) ++ x) (passed numbers (quote_behind quote c) n cs))
 
 -- no words
-pub no_part : (names : List (List ℕ)) (quote : ℕ) (text : List ℕ) → length text ≤ 0 → resolved_from names quote 0 text ≡ []
+pub no_part : (numbers : List ℕ → Option ℕ) (quote : ℕ) (text : List ℕ) → length text ≤ 0 → resolved_from numbers quote 0 text ≡ []
 unfolding resolved_from
-no_part names quote [] none = refl
-no_part names quote (c ∷ cs) none = absurd (omega arith)
+no_part numbers quote [] none = refl
+no_part numbers quote (c ∷ cs) none = absurd (omega arith)
 
 -- no line has a name where there is no line
 pub constant_end : (rest name : List ℕ) → length rest ≤ 0 → constant_from (lines_in rest) name ≡ None
@@ -45,7 +46,7 @@ same true word = refl
 same false word = refl
 
 -- a word stays where there are no names
-no_name : (quote : ℕ) (word : List ℕ) → part_for [] quote word ≡ word
+no_name : (quote : ℕ) (word : List ℕ) → part_for (constant_from []) quote word ≡ word
 unfolding part_for constant_from number_or
 no_name quote word = same (quote == 0) word
 
@@ -73,7 +74,7 @@ parted (suc n) c cs some =
     rw less (ap (λ (xs : List ℕ). c ∷ xs) (cut_back n cs))
 
 -- a text stays where there are no names
-pub unnamed : (quote skip : ℕ) (text : List ℕ) → resolved_from [] quote skip text ≡ drop skip text
+pub unnamed : (quote skip : ℕ) (text : List ℕ) → resolved_from (constant_from []) quote skip text ≡ drop skip text
 unfolding resolved_from
 unnamed quote zero [] = refl
 unnamed quote (suc skip) [] = refl
@@ -82,3 +83,9 @@ unnamed quote zero (c ∷ cs) =
     let n = part_len quote (c ∷ cs) in
     let more = unnamed (quote_behind quote c) (n - 1) cs in
     rw (no_name quote (take n (c ∷ cs)), more) (parted n c cs (part_some quote (c ∷ cs)))
+
+-- so it does where there are no bytes of names
+pub unnamed_text : (names text : List ℕ) → length names ≤ 0 → resolved (lines_in names) text ≡ text
+unfolding lines_in
+unnamed_text [] text none = unnamed 0 0 text
+unnamed_text (c ∷ names) text none = absurd (omega arith)

@@ -61,21 +61,21 @@ number_or None word = word
 number_or (Some n) word = number Intel n
 
 -- where no quote is open, the number of a word in its place
-unfoldable pub part_for : List (List ℕ) → ℕ → List ℕ → List ℕ
-part_for names quote word = if quote == 0 then number_or (constant_from names word) word else word
+unfoldable pub part_for : (List ℕ → Option ℕ) → ℕ → List ℕ → List ℕ
+part_for numbers quote word = if quote == 0 then number_or (numbers word) word else word
 
 -- how many bytes the front of a text has: a word, or one byte where a quote is open
 unfoldable pub part_len : ℕ → List ℕ → ℕ
 part_len quote text = if quote == 0 then word_len text else 1
 
--- a text with numbers in place of names, where a quote is open or none, and so many bytes belong to a word before
-unfoldable pub resolved_from : List (List ℕ) → ℕ → ℕ → List ℕ → List ℕ
-resolved_from names quote skip [] = []
-resolved_from names quote (suc skip) (c ∷ cs) = resolved_from names quote skip cs
-resolved_from names quote zero (c ∷ cs) =
-    part_for names quote (take (part_len quote (c ∷ cs)) (c ∷ cs))
-    ++ resolved_from names (quote_behind quote c) (part_len quote (c ∷ cs) - 1) cs
+-- a text with numbers in place of words, where a quote is open or none, and so many bytes belong to a word before
+unfoldable pub resolved_from : (List ℕ → Option ℕ) → ℕ → ℕ → List ℕ → List ℕ
+resolved_from numbers quote skip [] = []
+resolved_from numbers quote (suc skip) (c ∷ cs) = resolved_from numbers quote skip cs
+resolved_from numbers quote zero (c ∷ cs) =
+    part_for numbers quote (take (part_len quote (c ∷ cs)) (c ∷ cs))
+    ++ resolved_from numbers (quote_behind quote c) (part_len quote (c ∷ cs) - 1) cs
 
 -- a text with numbers in place of names
 abbrev pub resolved : List (List ℕ) → List ℕ → List ℕ
-resolved names text = resolved_from names 0 0 text
+resolved names text = resolved_from (constant_from names) 0 0 text

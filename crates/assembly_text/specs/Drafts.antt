@@ -252,10 +252,10 @@ is_whole_plain d = is_outside d && (is_register d || is_number d)
 unfoldable pub fits : Draft → Bool
 fits d = nat_lt (d.plus - d.minus) (2 ^ width (address_bits d)) && nat_le (2 * below_zero d) (2 ^ width (address_bits d))
 
--- an address: beside the instruction pointer stands a name, beside `rel` no register, and the displacement fits the address
+-- an address: beside the instruction pointer stands a name or a number, beside `rel` no register, and the displacement fits the address
 unfoldable pub is_whole_address : Draft → Bool
 is_whole_address d =
-    is_none d.selector && (is_idle d && ((not (is_instruction_pointer d.base) || (is_some d.name && is_none d.index))
+    is_none d.selector && (is_idle d && ((not (is_instruction_pointer d.base) || (d.counted && is_none d.index))
     && ((not d.rel || (is_none d.base && is_none d.index)) && fits d)))
 
 -- an index with the scale 1 is the base where there is none

@@ -7,4 +7,9 @@ pub mod Data
 pub mod Constants
 pub mod Statements
 pub mod Readings
+pub mod Labels
+pub mod Placing
+pub mod Padding
 pub mod Text
+pub mod TextLabels
+pub mod Rounds

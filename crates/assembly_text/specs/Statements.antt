@@ -8,6 +8,7 @@ use Rattle.x86_values.specs.declared.Register.{Register}
 use Rattle.x86_values.specs.declared.Register.TheVariants.{R16, R32, R64, Eip}
 use Rattle.x86_values.specs.Wrapping.{width, modulo_width}
 use Rattle.text_parts.specs.declared.style.Style.TheVariants.{Intel}
+use Rattle.text_parts.specs.Addresses.{is_instruction_pointer}
 use Rattle.text_parts.specs.Numbers.{number}
 use Rattle.text_parts.specs.Registers.{register, segment_name}
 use Rattle.intel_words.specs.declared.words.SizeName.{SizeName}
@@ -205,10 +206,14 @@ statement_of low = operands_from (length low - length (operands_text low)) (oper
 
 -- ---- what is open
 
+-- beside the instruction pointer stands a name, or what is known to be a target
+abbrev pub is_aimed : Draft → Bool
+is_aimed d = not (is_instruction_pointer d.base) || (is_some d.name || d.rel)
+
 -- an operand is none, or has passed; beside a name stands no number
 unfoldable pub is_sound_part : Option Draft → Bool
 is_sound_part None = true
-is_sound_part (Some d) = d.sound && (is_none d.name || (d.plus == 0 && d.minus == 0))
+is_sound_part (Some d) = (d.sound && is_aimed d) && (is_none d.name || (d.plus == 0 && d.minus == 0))
 
 -- the place of the name of an operand
 unfoldable pub name_in : Option Draft → Option ℕ

@@ -1,5 +1,5 @@
--- Routines as text: which instruction a line stands for, which label it goes to, and what the lines of a text add to a routine.
-use Rattle.std.specs.Prelude.{◌≡◌, ◌⊎◌, ℕ, ◌+◌, ◌<◌, nat_lt, true, if◌then◌else◌, List, [], ◌∷◌, ◌++◌, length, Option, Some, None, Result, Ok, Err, bytes_eq, is_some, alloc_error}
+-- Routines as text: which instruction a line stands for, which label it goes to, and what the lines of a text add to a routine in a round.
+use Rattle.std.specs.Prelude.{◌≡◌, ◌⊎◌, ℕ, ◌+◌, ◌<◌, Bool, true, false, not, ◌&&◌, ◌||◌, List, [], ◌∷◌, ◌++◌, length, Option, Some, None, Result, Ok, Err, bytes_eq, is_some, alloc_error}
 use Rattle.std.specs.declared.alloc.AllocError.{AllocError}
 use Rattle.x86_values.specs.declared.Bits.{Bits}
 use Rattle.x86_values.specs.declared.Instr.{Instr}
@@ -7,46 +7,21 @@ use Rattle.intel_reader.specs.Assembled.{IsAssembled as IsReadAs, IsNoText}
 use Rattle.move_goals.specs.MovedTargets.Targets.{target_of}
 use Rattle.code_assembler.specs.declared.error.BuildError.{BuildError}
 use Rattle.code_assembler.specs.declared.error.BuildError.TheVariants.{Memory, PlacedTwice}
+use Rattle.code_assembler.specs.Routine.{RoutineState}
+use Rattle.code_assembler.specs.Built.{with_label, with_labels, with_place, with_item, with_bytes, label_refusal, place_refusal, push_refusal, bytes_refusal, first_of}
 use Rattle.assembly_text.specs.declared.code.Code.{Code}
 use Rattle.assembly_text.specs.declared.code.Code.TheVariants.{Plain, Named, Unsized, Nothing}
+use Rattle.assembly_text.specs.declared.round.Trace.{Trace}
 use Rattle.assembly_text.specs.declared.text_error.LineError.{LineError}
-use Rattle.assembly_text.specs.declared.text_error.LineError.TheVariants.{NotCode, SizeNeeded, NotData, UnknownName, Refused}
-use Rattle.assembly_text.specs.declared.text_error.AssembleError.{AssembleError}
-use Rattle.assembly_text.specs.declared.text_error.AssembleError.TheVariants.{NoMemory, AtName, TooManyLabels, AtLine, Unfinished}
-use Rattle.code_assembler.specs.Routine.{RoutineState}
-use Rattle.code_assembler.specs.Built.{with_labels, with_place, with_item, with_bytes, place_refusal, push_refusal, bytes_refusal}
-use Rattle.code_assembler.specs.Finished.{AssembledState, IsFinished}
-use Rattle.assembly_text.specs.Lines.{lines_in, shown, shown_column, body_column, has_label, label_of, body_of, begins_name, name_at, without_name}
+use Rattle.assembly_text.specs.declared.text_error.LineError.TheVariants.{NotCode, SizeNeeded, NotData, UnknownName, Refused, DoesNotFit, BadAlignment}
+use Rattle.assembly_text.specs.Lines.{shown, shown_column, body_column, label_of, body_of, begins_name, name_at, without_name}
 use Rattle.assembly_text.specs.Names.{first_word, behind_word}
 use Rattle.assembly_text.specs.Data.{data_of, data_width}
 use Rattle.assembly_text.specs.Constants.{bad_from, resolved}
 use Rattle.assembly_text.specs.Readings.{IsFreeCode}
-
--- ---- names
-
--- the number of a name by the label of a line, and by the lines behind it
-abbrev pub number_by : Option (List ℕ) → (ℕ → Option ℕ) → List ℕ → ℕ → Option ℕ
-number_by None behind name count = behind count
-number_by (Some label) behind name count = if bytes_eq label name then Some count else behind (count + 1)
-
--- the number of the first label of a name among some lines, behind so many labels
-unfoldable pub number_from : List (List ℕ) → List ℕ → ℕ → Option ℕ
-number_from [] name count = None
-number_from (line ∷ lines) name count = number_by (label_of (shown line)) (number_from lines name) name count
-
--- a number below another
-abbrev pub below : Option ℕ → ℕ → Option ℕ
-below None count = None
-below (Some n) count = if nat_lt n count then Some n else None
-
--- the number of a name, of so many labels
-abbrev pub number_of : List (List ℕ) → ℕ → List ℕ → Option ℕ
-number_of lines count name = below (number_from lines name 0) count
-
--- how many labels some lines have, behind so many
-unfoldable pub labels_from : List (List ℕ) → ℕ → ℕ
-labels_from [] count = count
-labels_from (line ∷ lines) count = labels_from lines (if has_label (shown line) then count + 1 else count)
+use Rattle.assembly_text.specs.Labels.{number_of, labels_from}
+use Rattle.assembly_text.specs.Placing.{View, zeroed, no_trace, place_at, placed, has_labels, placed_text, IsPlacedCode, is_whole, is_nothing, IsUnfit}
+use Rattle.assembly_text.specs.Padding.{is_align, alignment_in, gap, padding}
 
 -- ---- instructions
 
@@ -81,7 +56,7 @@ abbrev pub IsCode : Bits → ℕ → List ℕ → Code → Type 0
 IsCode bits base text code =
     ((i : Instr) × (IsReadAs bits base text i × (code ≡ Plain i))) ⊎ (IsNoText bits base text × IsFurtherCode bits base text code)
 
--- ---- lines
+-- ---- what a line adds
 
 -- what the answer of a routine says of a line
 abbrev pub told : Result (Unit {0}) BuildError → Result (Option LineError) AllocError
@@ -118,99 +93,167 @@ RefusesLabel lines (Some name) s UnknownName = number_of lines (length s.labels)
 RefusesLabel lines (Some name) s (Refused why) = (n : ℕ) × ((number_of lines (length s.labels) name ≡ Some n) × (place_refusal s n ≡ Some why))
 RefusesLabel lines label s why = ⊥
 
--- what data adds, each number of which has so many bytes
-abbrev pub AddsData : ℕ → List ℕ → RoutineState → RoutineState → Type 0
-AddsData width text s t =
-    (bytes : List ℕ) × ((data_of width text ≡ Some bytes) × ((bytes_refusal s bytes ≡ None) × (t ≡ with_bytes s bytes)))
+-- ---- labels as numbers
+
+-- A line that is no instruction as it stands is read again if it has names of labels, with their addresses in their place.
+unfoldable pub is_open : View → List ℕ → Code → Bool
+is_open v text code = not (is_whole code) && not (bytes_eq (placed_text v text) text)
+
+-- what an instruction adds, if it is one with addresses in place of names
+abbrev pub AddsPlaced : View → List ℕ → RoutineState → RoutineState → Type 0
+AddsPlaced v text s t =
+    (code : Code) × (IsPlacedCode s.bits v.base text (placed_text v text) code
+    × ((is_nothing code ≡ false) × AddsCode v.all (placed_text v text) code s t))
+
+-- why a text that is no instruction with addresses adds nothing
+abbrev pub RefusesUnfit : View → List ℕ → RoutineState → LineError → Type 0
+RefusesUnfit v text s NotCode = IsUnfit s.bits v text true
+RefusesUnfit v text s DoesNotFit = IsUnfit s.bits v text false
+RefusesUnfit v text s why = ⊥
+
+-- why it adds nothing
+abbrev pub RefusesPlaced : View → List ℕ → RoutineState → LineError → Type 0
+RefusesPlaced v text s why =
+    (code : Code) × (IsPlacedCode s.bits v.base text (placed_text v text) code
+    × (((is_nothing code ≡ true) × RefusesUnfit v text s why) ⊎ ((is_nothing code ≡ false) × RefusesCode v.all (placed_text v text) code s why)))
+
+-- what the text of an instruction adds, and what is passed on: with addresses or without
+abbrev pub AddsStated : View → List ℕ → RoutineState → Trace → RoutineState → Trace → Type 0
+AddsStated v text s f t g =
+    (code : Code) × (IsCode s.bits v.base text code
+    × (((is_open v text code ≡ false) × (AddsCode v.all text code s t × (g ≡ record f { after_data = false })))
+    ⊎ ((is_open v text code ≡ true) × (AddsPlaced v text s t × (g ≡ record { after_data = false; placed = true })))))
 
 -- and why it adds nothing
-abbrev pub RefusesData : ℕ → List ℕ → RoutineState → LineError → Type 0
-RefusesData width text s NotData = data_of width text ≡ None
-RefusesData width text s (Refused why) = (bytes : List ℕ) × ((data_of width text ≡ Some bytes) × (bytes_refusal s bytes ≡ Some why))
-RefusesData width text s why = ⊥
+abbrev pub RefusesStated : View → List ℕ → RoutineState → LineError → Type 0
+RefusesStated v text s why =
+    (code : Code) × (IsCode s.bits v.base text code
+    × (((is_open v text code ≡ false) × RefusesCode v.all text code s why) ⊎ ((is_open v text code ≡ true) × RefusesPlaced v text s why)))
+
+-- ---- data
+
+-- what data adds, each number of which has so many bytes
+abbrev pub AddsData : View → ℕ → List ℕ → RoutineState → RoutineState → Type 0
+AddsData v width text s t =
+    (bytes : List ℕ) × ((data_of width (placed v text) ≡ Some bytes) × ((bytes_refusal s bytes ≡ None) × (t ≡ with_bytes s bytes)))
+
+-- and why it adds nothing: with 0 as the address of each label it would be data, or not
+abbrev pub RefusesData : View → ℕ → List ℕ → RoutineState → LineError → Type 0
+RefusesData v width text s NotData = (data_of width (placed v text) ≡ None) × (is_some (data_of width (placed (zeroed v) text)) ≡ false)
+RefusesData v width text s DoesNotFit = (data_of width (placed v text) ≡ None) × (is_some (data_of width (placed (zeroed v) text)) ≡ true)
+RefusesData v width text s (Refused why) =
+    (bytes : List ℕ) × ((data_of width (placed v text) ≡ Some bytes) × (bytes_refusal s bytes ≡ Some why))
+RefusesData v width text s why = ⊥
+
+-- ---- alignment
+
+-- a label more, which has its place here
+abbrev pub with_mark : RoutineState → RoutineState
+with_mark s = with_place (with_label s) (length s.labels)
+
+-- none is made, or it has a place
+abbrev pub mark_refusal : RoutineState → Option BuildError
+mark_refusal s = first_of (label_refusal s) (place_refusal (with_label s) (length s.labels))
+
+-- what fills up to a multiple of a number, by the address that the place had in the round before
+abbrev pub padding_here : View → ℕ → RoutineState → Trace → List ℕ
+padding_here v n s f = padding s.bits f.after_data (gap n (place_at v (length s.labels)))
+
+-- what an alignment adds
+abbrev pub AddsPadding : View → List ℕ → RoutineState → Trace → RoutineState → Type 0
+AddsPadding v text s f t =
+    (n : ℕ) × ((alignment_in text ≡ Some n) × ((mark_refusal s ≡ None)
+    × ((bytes_refusal (with_mark s) (padding_here v n s f) ≡ None) × (t ≡ with_bytes (with_mark s) (padding_here v n s f)))))
+
+-- and why it adds nothing
+abbrev pub RefusesPadding : View → List ℕ → RoutineState → Trace → LineError → Type 0
+RefusesPadding v text s f BadAlignment = alignment_in text ≡ None
+RefusesPadding v text s f (Refused why) =
+    (n : ℕ) × ((alignment_in text ≡ Some n) × ((mark_refusal s ≡ Some why)
+    ⊎ ((mark_refusal s ≡ None) × (bytes_refusal (with_mark s) (padding_here v n s f) ≡ Some why))))
+RefusesPadding v text s f why = ⊥
+
+-- ---- the words of a line
 
 -- how many bytes the numbers of a line have, 0 of a line that is no data
 abbrev pub width_of : List ℕ → ℕ
 width_of body = data_width (first_word body)
 
--- what a line that is not empty adds: data or an instruction
-abbrev pub AddsWords : Bits → ℕ → List (List ℕ) → List ℕ → RoutineState → RoutineState → Type 0
-AddsWords bits base lines body s t =
-    ((0 < width_of body) × AddsData (width_of body) (behind_word body) s t)
-    ⊎ ((width_of body ≡ 0) × ((code : Code) × (IsCode bits base body code × AddsCode lines body code s t)))
+-- what a line adds that is not empty and no data: an alignment or an instruction
+abbrev pub AddsFurther : View → List ℕ → RoutineState → Trace → RoutineState → Trace → Type 0
+AddsFurther v body s f t g =
+    ((is_align (first_word body) ≡ true) × (AddsPadding v (behind_word body) s f t × (g ≡ record f { placed = true })))
+    ⊎ ((is_align (first_word body) ≡ false) × AddsStated v body s f t g)
 
 -- and why it adds nothing
-abbrev pub RefusesWords : Bits → ℕ → List (List ℕ) → List ℕ → RoutineState → LineError → Type 0
-RefusesWords bits base lines body s why =
-    ((0 < width_of body) × RefusesData (width_of body) (behind_word body) s why)
-    ⊎ ((width_of body ≡ 0) × ((code : Code) × (IsCode bits base body code × RefusesCode lines body code s why)))
+abbrev pub RefusesFurther : View → List ℕ → RoutineState → Trace → LineError → Type 0
+RefusesFurther v body s f why =
+    ((is_align (first_word body) ≡ true) × RefusesPadding v (behind_word body) s f why)
+    ⊎ ((is_align (first_word body) ≡ false) × RefusesStated v body s why)
+
+-- what is passed on behind data
+abbrev pub behind_data : View → List ℕ → Trace → Trace
+behind_data v text f = record { after_data = true; placed = f.placed || has_labels v text }
+
+-- what a line that is not empty adds: data, or something else
+abbrev pub AddsWords : View → List ℕ → RoutineState → Trace → RoutineState → Trace → Type 0
+AddsWords v body s f t g =
+    ((0 < width_of body) × (AddsData v (width_of body) (behind_word body) s t × (g ≡ behind_data v (behind_word body) f)))
+    ⊎ ((width_of body ≡ 0) × AddsFurther v body s f t g)
+
+-- and why it adds nothing
+abbrev pub RefusesWords : View → List ℕ → RoutineState → Trace → LineError → Type 0
+RefusesWords v body s f why =
+    ((0 < width_of body) × RefusesData v (width_of body) (behind_word body) s why) ⊎ ((width_of body ≡ 0) × RefusesFurther v body s f why)
 
 -- what the rest of a line adds: nothing, or what its words say with the numbers of the caller's names in their place
-unfoldable pub AddsBody : Bits → ℕ → List (List ℕ) → List (List ℕ) → List ℕ → RoutineState → RoutineState → Type 0
-AddsBody bits base names lines body s t =
-    ((length body ≡ 0) × (t ≡ s)) ⊎ ((0 < length body) × AddsWords bits base lines (resolved names body) s t)
+unfoldable pub AddsBody : View → List ℕ → RoutineState → Trace → RoutineState → Trace → Type 0
+AddsBody v body s f t g = ((length body ≡ 0) × ((t ≡ s) × (g ≡ f))) ⊎ ((0 < length body) × AddsWords v (resolved v.names body) s f t g)
 
 -- and why it adds nothing
-unfoldable pub RefusesBody : Bits → ℕ → List (List ℕ) → List (List ℕ) → List ℕ → RoutineState → LineError → Type 0
-RefusesBody bits base names lines body s why = (0 < length body) × RefusesWords bits base lines (resolved names body) s why
+unfoldable pub RefusesBody : View → List ℕ → RoutineState → Trace → LineError → Type 0
+RefusesBody v body s f why = (0 < length body) × RefusesWords v (resolved v.names body) s f why
+
+-- ---- lines
 
 -- what a line adds: its label, and behind it the rest
-abbrev pub AddsLine : Bits → ℕ → List (List ℕ) → List (List ℕ) → List ℕ → RoutineState → RoutineState → Type 0
-AddsLine bits base names lines line s t =
-    (u : RoutineState) × (AddsLabel lines (label_of (shown line)) s u × AddsBody bits base names lines (body_of (shown line)) u t)
+abbrev pub AddsLine : View → List ℕ → RoutineState → Trace → RoutineState → Trace → Type 0
+AddsLine v line s f t g = (u : RoutineState) × (AddsLabel v.all (label_of (shown line)) s u × AddsBody v (body_of (shown line)) u f t g)
 
 -- and why it adds nothing, memory apart
-abbrev pub RefusesLine : Bits → ℕ → List (List ℕ) → List (List ℕ) → List ℕ → RoutineState → LineError → Type 0
-RefusesLine bits base names lines line s why =
-    RefusesLabel lines (label_of (shown line)) s why
-    ⊎ ((u : RoutineState) × (AddsLabel lines (label_of (shown line)) s u × RefusesBody bits base names lines (body_of (shown line)) u why))
+abbrev pub RefusesLine : View → List ℕ → RoutineState → Trace → LineError → Type 0
+RefusesLine v line s f why =
+    RefusesLabel v.all (label_of (shown line)) s why
+    ⊎ ((u : RoutineState) × (AddsLabel v.all (label_of (shown line)) s u × RefusesBody v (body_of (shown line)) u f why))
 
 -- what some lines of a text add, one behind another
-abbrev pub AddLines : ℕ → List (List ℕ) → List (List ℕ) → List (List ℕ) → RoutineState → RoutineState → Type 0
-AddLines base names all [] s t = s ≡ t
-AddLines base names all (line ∷ lines) s t = (u : RoutineState) × (AddsLine s.bits base names all line s u × AddLines base names all lines u t)
+abbrev pub AddLines : View → List (List ℕ) → RoutineState → Trace → RoutineState → Trace → Type 0
+AddLines v [] s f t g = (s ≡ t) × (f ≡ g)
+AddLines v (line ∷ lines) s f t g = (u : RoutineState) × ((h : Trace) × (AddsLine v line s f u h × AddLines v lines u h t g))
 
 -- a routine with the labels of a text
-abbrev pub first_state : Bits → List ℕ → RoutineState
-first_state bits text = with_labels bits (labels_from (lines_in text) 0)
+abbrev pub first_state : Bits → View → RoutineState
+first_state bits v = with_labels bits (labels_from v.all 0)
 
--- the routine of a text, where each line of names is one
-abbrev pub IsRoutineOf : Bits → ℕ → List ℕ → List ℕ → RoutineState → Type 0
-IsRoutineOf bits base names text s =
-    (bad_from (lines_in names) 0 ≡ None) × AddLines base (lines_in names) (lines_in text) (lines_in text) (first_state bits text) s
+-- the routine of a text in a round, where each line of names is one, and what is passed on behind its last line
+abbrev pub IsRoutineOf : Bits → View → RoutineState → Trace → Type 0
+IsRoutineOf bits v s f = (bad_from v.names 0 ≡ None) × AddLines v v.all (first_state bits v) no_trace s f
 
 -- the column of what is refused in a line: a label that has a place already, or what the line says besides its label
 unfoldable pub column_of : List ℕ → LineError → ℕ
 column_of line (Refused (PlacedTwice label)) = shown_column line
 column_of line why = body_column line
 
--- the line of this number, counted from 1, is the first that adds nothing, at this column and for this cause
-pub record IsRefusedLine (bits : Bits) (base : ℕ) (names : List ℕ) (text : List ℕ) (number : ℕ) (column : ℕ) (why : LineError) : Type 0 where
+-- the line of this number, counted from 1, is the first that adds nothing in a round, at this column and for this cause
+pub record IsRefusedLine (bits : Bits) (v : View) (number : ℕ) (column : ℕ) (why : LineError) : Type 0 where
   pub before : List (List ℕ)
   pub line : List ℕ
   pub behind : List (List ℕ)
-  pub good : bad_from (lines_in names) 0 ≡ None
-  pub are : lines_in text ≡ before ++ line ∷ behind
+  pub good : bad_from v.names 0 ≡ None
+  pub are : v.all ≡ before ++ line ∷ behind
   pub state : RoutineState
-  pub built : AddLines base (lines_in names) (lines_in text) before (first_state bits text) state
-  pub refused : RefusesLine state.bits base (lines_in names) (lines_in text) line state why
+  pub trace : Trace
+  pub built : AddLines v before (first_state bits v) no_trace state trace
+  pub refused : RefusesLine v line state trace why
   pub number_is : number ≡ length before + 1
   pub column_is : column ≡ column_of line why
-
--- why a text has no routine
-abbrev pub IsNoRoutine : Bits → ℕ → List ℕ → List ℕ → AssembleError → Type 0
-IsNoRoutine bits base names text NoMemory = Unit {0}
-IsNoRoutine bits base names text (AtName number) = bad_from (lines_in names) 0 ≡ Some number
-IsNoRoutine bits base names text TooManyLabels = (bad_from (lines_in names) 0 ≡ None) × (65536 < labels_from (lines_in text) 0)
-IsNoRoutine bits base names text (AtLine number column why) = IsRefusedLine bits base names text number column why
-IsNoRoutine bits base names text (Unfinished why) = ⊥
-
--- the answer for a text with names: the bytes of its routine, or the first cause that there are none
-abbrev pub IsNamedAnswer : Bits → ℕ → List ℕ → List ℕ → Result AssembledState AssembleError → Type 0
-IsNamedAnswer bits base names text (Ok a) = (s : RoutineState) × (IsRoutineOf bits base names text s × IsFinished s base (Ok a))
-IsNamedAnswer bits base names text (Err (Unfinished why)) = (s : RoutineState) × (IsRoutineOf bits base names text s × IsFinished s base (Err why))
-IsNamedAnswer bits base names text (Err why) = IsNoRoutine bits base names text why
-
--- the answer for a text without names
-abbrev pub IsTextAnswer : Bits → ℕ → List ℕ → Result AssembledState AssembleError → Type 0
-IsTextAnswer bits base text answer = IsNamedAnswer bits base [] text answer

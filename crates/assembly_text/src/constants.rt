@@ -1,15 +1,14 @@
-//! Names with numbers from the caller, and the texts in which the numbers take the place of the names.
+//! Names with numbers from the caller.
 
-ghost use Rattle.std.specs.Prelude.{◌≡◌, ◌≤◌, ◌<◌, ◌++◌, IfOk, OnOk, length};
+ghost use Rattle.std.specs.Prelude.{◌≡◌, IfOk};
 ghost use Rattle.assembly_text.specs.Lines as lines;
 ghost use Rattle.assembly_text.specs.Constants as spec;
 
 use crate::classes::{Class, class_of};
 use crate::data::is_datum;
-use crate::drafts::{Draft, operand_in, word_len, wrapped};
-use crate::line::{behind, byte_at, first_line, is_digit, lowered, name_len, quote_behind, shown};
+use crate::drafts::{Draft, operand_in, wrapped};
+use crate::line::{behind, byte_at, first_line, is_digit, lowered, name_len, shown};
 use crate::names::{behind_word, first_word};
-use crate::statements::append_value;
 use std::alloc::{AllocError, Global};
 
 /// Whether a text is a name, `=` and more.
@@ -33,7 +32,7 @@ fn is_name_class(class: Class) -> bool
 
 /// Whether a name is no word of an operand.
 #[tactic(auto, unfolding(crate::specs::Constants::is_free_name))]
-fn is_free_name(alloc: Global, name: &[u8]) -> Result<bool, AllocError>
+pub(crate) fn is_free_name(alloc: Global, name: &[u8]) -> Result<bool, AllocError>
     ensures { IfOk result (λ free. free ≡ spec.is_free_name name.now) }
 {
     let low = lowered(alloc, name)?;
@@ -42,7 +41,7 @@ fn is_free_name(alloc: Global, name: &[u8]) -> Result<bool, AllocError>
 
 /// The number of an operand of at most eight bytes.
 #[tactic(auto, unfolding(crate::specs::Constants::whole_number))]
-fn whole_number(d: &Draft) -> Option<u64>
+pub(crate) fn whole_number(d: &Draft) -> Option<u64>
     ensures { result ≡ spec.whole_number d.now }
 {
     if is_datum(8, d) {
@@ -80,7 +79,11 @@ fn definition_of(alloc: Global, text: &[u8]) -> Result<Option<u64>, AllocError>
 
 /// The number of a name: that of the first line of the name.
 #[tactic(auto, unfolding(crate::specs::Constants::constant_from))]
-fn constant_named(alloc: Global, names: &[u8], name: &[u8]) -> Result<Option<u64>, AllocError>
+pub(crate) fn constant_named(
+    alloc: Global,
+    names: &[u8],
+    name: &[u8],
+) -> Result<Option<u64>, AllocError>
     ensures { IfOk result (λ value. value ≡ spec.constant_from (lines.lines_in names.now) name.now) }
 {
     let mut rest = names;
@@ -124,54 +127,4 @@ pub(crate) fn bad_name(alloc: Global, names: &[u8]) -> Result<Option<u64>, Alloc
         rest = behind;
     }
     Ok(None)
-}
-
-/// Appends the number of a word, if it has one and no quote is open, else the word.
-#[tactic(auto, unfolding(crate::specs::Constants::part_for, crate::specs::Constants::number_or))]
-fn put_part(
-    alloc: Global,
-    out: &mut Vec<u8>,
-    names: &[u8],
-    quote: u8,
-    word: &[u8],
-) -> Result<(), AllocError>
-    ensures { OnOk result (out.new.items ≡ out.old.items ++ spec.part_for (lines.lines_in names.now) quote word.now) }
-{
-    if quote != 0 {
-        return out.extend_from_slice(word);
-    }
-    let value = constant_named(alloc, names, word)?;
-    match value {
-        None => out.extend_from_slice(word),
-        Some(n) => append_value(out, n),
-    }
-}
-
-/// How many bytes the front of a text has: a word, or one byte if a quote is open.
-#[tactic(auto, unfolding(crate::specs::Constants::part_len))]
-fn part_len(quote: u8, text: &[u8]) -> usize
-    requires { 0 < length text.now }
-    ensures value { result ≡ spec.part_len quote text.now }
-    ensures some { 0 < result }
-    ensures within { result ≤ length text.now }
-{
-    if quote == 0 { word_len(text) } else { 1 }
-}
-
-/// A text with numbers in place of names.
-pub(crate) fn resolved(alloc: Global, names: &[u8], text: &[u8]) -> Result<Vec<u8>, AllocError>
-    ensures { IfOk result (λ out. out.items ≡ spec.resolved (lines.lines_in names.now) text.now) }
-{
-    let mut out = Vec::with_capacity(alloc, text.len())?;
-    let mut quote = 0;
-    let mut rest = text;
-    'words: while !rest.is_empty() {
-        let len = part_len(quote, rest);
-        let first = byte_at(rest, 0);
-        let (word, behind) = rest.split_at(len);
-        put_part(alloc, &mut out, names, quote, word)?;
-        quote = quote_behind(quote, first);
-        rest = behind;
-    }
-    Ok(out)
 }

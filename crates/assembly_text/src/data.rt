@@ -137,7 +137,7 @@ fn missing(count: usize, len: usize) -> usize
 
 /// Appends so many zeros.
 #[tactic(auto, using(crate::proofs::Growing::replicate_more))]
-fn put_zeros(out: &mut Vec<u8>, count: usize) -> Result<(), AllocError>
+pub(crate) fn put_zeros(out: &mut Vec<u8>, count: usize) -> Result<(), AllocError>
     ensures { OnOk result (out.new.items ≡ out.old.items ++ replicate count 0) }
 {
     'bytes: for _k in 0..count {

@@ -548,7 +548,7 @@ pub(crate) fn address_bits(d: &Draft) -> Bits
 
 /// Whether a base is the instruction pointer.
 #[tactic(auto, unfolding(text_parts::specs::Addresses::is_instruction_pointer))]
-fn is_pointer(base: Option<Register>) -> bool
+pub(crate) fn is_pointer(base: Option<Register>) -> bool
     ensures { result ≡ is_instruction_pointer base }
 {
     match base {
@@ -622,7 +622,7 @@ fn is_whole_address(d: &Draft) -> bool
 {
     d.selector.is_none()
         && (is_idle(d)
-            && ((!is_pointer(d.base) || (d.name.is_some() && d.index.is_none()))
+            && ((!is_pointer(d.base) || (d.counted && d.index.is_none()))
                 && ((!d.rel || (d.base.is_none() && d.index.is_none())) && fits(d))))
 }
 

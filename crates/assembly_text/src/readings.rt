@@ -133,7 +133,7 @@ fn code_of_reading(name: Option<usize>, reading: Reading) -> Code
 }
 
 /// What the operands of a text say together.
-fn stated_code(
+pub(crate) fn stated_code(
     alloc: Global,
     bits: Bits,
     base: u64,

@@ -9,7 +9,8 @@ ghost use Rattle.assembly_text.specs.Statements as spec;
 
 use crate::digits::last_byte;
 use crate::drafts::{
-    Draft, Place, address_bits, below_zero, has_no_size, is_relative, operand_in, wrapped,
+    Draft, Place, address_bits, below_zero, has_no_size, is_pointer, is_relative, operand_in,
+    wrapped,
 };
 use crate::line::{behind, front_of};
 use crate::names::{behind_word, named_text, put_head};
@@ -466,6 +467,13 @@ pub(crate) fn statement_of(low: &[u8]) -> Statement
     operands_from(low.len().saturating_sub(operands.len()), operands)
 }
 
+/// Whether what stands beside the instruction pointer is a name, or known to be a target.
+fn is_aimed(d: &Draft) -> bool
+    ensures { result ≡ spec.is_aimed d.now }
+{
+    !is_pointer(d.base) || (d.name.is_some() || d.rel)
+}
+
 /// Whether an operand is none, or has passed.
 #[tactic(auto, unfolding(crate::specs::Statements::is_sound_part))]
 fn is_sound_part(part: &Option<Draft>) -> bool
@@ -473,7 +481,9 @@ fn is_sound_part(part: &Option<Draft>) -> bool
 {
     match part {
         None => true,
-        Some(d) => d.sound && (d.name.is_none() || (d.plus == 0 && d.minus == 0)),
+        Some(d) => {
+            (d.sound && is_aimed(d)) && (d.name.is_none() || (d.plus == 0 && d.minus == 0))
+        }
     }
 }
 

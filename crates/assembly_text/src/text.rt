@@ -1,22 +1,31 @@
-//! Routines as text.
+//! What the lines of a text add to a routine in a round.
 
-ghost use Rattle.std.specs.Prelude.{◌≡◌, ◌<◌, ◌≤◌, ◌+◌, ◌∷◌, length, true, IfOk, MatchOption, MatchResult, Some, None};
+ghost use Rattle.std.specs.Prelude.{◌≡◌, ◌⊎◌, ◌<◌, ◌≤◌, length, true, is_some, IfOk, IfErr, OnOk, MatchOption, MatchResult, Some, None};
+ghost use Rattle.code_assembler.specs.declared.error.BuildError.TheVariants.{Memory};
 ghost use Rattle.assembly_text.specs.declared.code.Code.{Code};
 ghost use Rattle.assembly_text.specs.Constants.{bad_from};
+ghost use Rattle.assembly_text.specs.Data.{data_of};
 ghost use Rattle.assembly_text.specs.Lines as lines;
+ghost use Rattle.assembly_text.specs.Placing.{view_of, zeroed as zero_view, placed as placed_in, placed_text as text_in};
+ghost use Rattle.assembly_text.specs.Rounds as rounds;
 ghost use Rattle.assembly_text.specs.Text as spec;
 
 use crate::code::Code;
-use crate::constants::{bad_name, resolved};
+use crate::constants::bad_name;
 use crate::data::{data_width, put_data};
+use crate::labels::{Labels, label_named, labels_of};
 use crate::line::{
     begins_name, body_column, body_of, first_line, label_of, name_at, shown, shown_column,
     without_name,
 };
 use crate::names::{behind_word, first_word};
+use crate::numbers::{placed, resolved};
+use crate::padding::{alignment_in, gap, is_align, padding};
+use crate::placing::{is_never_code, is_nothing, is_whole, placed_code, placed_text};
 use crate::readings::free_code;
+use crate::round::{Round, Trace, no_trace, place_at, zeroed};
 use crate::text_error::{AssembleError, LineError};
-use code_assembler::{Assembled, Assembler, BuildError, Label};
+use code_assembler::{Assembler, BuildError};
 use intel_reader::read_intel;
 use move_goals::moved_targets::target_of;
 use std::alloc::{AllocError, Global};
@@ -24,54 +33,6 @@ use x86_values::{Bits, Instr};
 
 /// How many labels a text has at most.
 const MOST_LABELS: usize = 65_536;
-
-/// The number of the first label of a name.
-#[tactic(auto, unfolding(crate::specs::Text::number_from))]
-fn number_from(text: &[u8], name: &[u8]) -> Option<usize>
-    ensures { result ≡ spec.number_from (lines.lines_in text.now) name.now 0 }
-{
-    let mut rest = text;
-    let mut count = 0;
-    'lines: while !rest.is_empty() {
-        let (line, behind) = first_line(rest);
-        if let Some(label) = label_of(shown(line)) {
-            if label == name {
-                return Some(count);
-            }
-            count += 1;
-        }
-        rest = behind;
-    }
-    None
-}
-
-/// The label of a name.
-fn label_named(routine: &Assembler, text: &[u8], name: &[u8]) -> Option<Label>
-    ensures { MatchOption result (spec.number_of (lines.lines_in text.now) (length routine.now.labels) name.now ≡ None)
-        (λ label. spec.number_of (lines.lines_in text.now) (length routine.now.labels) name.now ≡ Some label.number) }
-{
-    match number_from(text, name) {
-        None => None,
-        Some(number) => routine.label_at(number),
-    }
-}
-
-/// How many labels a text has.
-#[tactic(auto, unfolding(crate::specs::Text::labels_from))]
-fn labels_of(text: &[u8]) -> usize
-    ensures { result ≡ spec.labels_from (lines.lines_in text.now) 0 }
-{
-    let mut rest = text;
-    let mut count = 0;
-    'lines: while !rest.is_empty() {
-        let (line, behind) = first_line(rest);
-        if label_of(shown(line)).is_some() {
-            count += 1;
-        }
-        rest = behind;
-    }
-    count
-}
 
 /// The instruction with 0x0 in place of the name at a place, if there is one that goes somewhere.
 fn instr_at(alloc: Global, bits: Bits, text: &[u8], at: usize) -> Result<Option<Instr>, AllocError>
@@ -153,17 +114,17 @@ fn told(answer: Result<(), BuildError>) -> Result<Option<LineError>, AllocError>
 /// Adds what a text stands for.
 fn push_code(
     routine: &mut Assembler,
-    text: &[u8],
+    labels: &Labels<'_>,
     body: &[u8],
     code: Code,
 ) -> Result<Option<LineError>, AllocError>
-    ensures { IfOk result (λ refused. MatchOption refused (spec.AddsCode (lines.lines_in text.now) body.now code routine.old routine.new)
-        (λ why. spec.RefusesCode (lines.lines_in text.now) body.now code routine.old why)) }
+    ensures { IfOk result (λ refused. MatchOption refused (spec.AddsCode (lines.lines_in labels.now.text.now) body.now code routine.old routine.new)
+        (λ why. spec.RefusesCode (lines.lines_in labels.now.text.now) body.now code routine.old why)) }
 {
     match code {
         Code::Plain(instr) => told(routine.push(&instr)),
         Code::Named(at, instr) => {
-            match label_named(routine, text, name_at(body, at)) {
+            match label_named(routine, labels, name_at(body, at)) {
                 None => Ok(Some(LineError::UnknownName)),
                 Some(label) => told(routine.push_to(&instr, label)),
             }
@@ -174,13 +135,13 @@ fn push_code(
 }
 
 /// Places the label of a line.
-fn place_label(routine: &mut Assembler, text: &[u8], line: &[u8]) -> Option<LineError>
-    ensures { MatchOption result (spec.AddsLabel (lines.lines_in text.now) (lines.label_of line.now) routine.old routine.new)
-        (λ why. spec.RefusesLabel (lines.lines_in text.now) (lines.label_of line.now) routine.old why) }
+fn place_label(routine: &mut Assembler, labels: &Labels<'_>, line: &[u8]) -> Option<LineError>
+    ensures { MatchOption result (spec.AddsLabel (lines.lines_in labels.now.text.now) (lines.label_of line.now) routine.old routine.new)
+        (λ why. spec.RefusesLabel (lines.lines_in labels.now.text.now) (lines.label_of line.now) routine.old why) }
 {
     match label_of(line) {
         None => None,
-        Some(name) => match label_named(routine, text, name) {
+        Some(name) => match label_named(routine, labels, name) {
             None => Some(LineError::UnknownName),
             Some(label) => match routine.place(label) {
                 Ok(()) => None,
@@ -190,59 +151,185 @@ fn place_label(routine: &mut Assembler, text: &[u8], line: &[u8]) -> Option<Line
     }
 }
 
+/// Whether a text is data with 0 as the address of each label.
+fn is_ever_data(
+    alloc: Global,
+    round: &Round<'_, '_, '_>,
+    width: usize,
+    text: &[u8],
+) -> Result<bool, AllocError>
+    requires some { 0 < width }
+    requires few { width ≤ 8 }
+    ensures { IfOk result (λ ever. is_some (data_of width (placed_in (zero_view (view_of round.now)) text.now)) ≡ ever) }
+{
+    let other = placed(alloc, &zeroed(round), text)?;
+    let mut bytes = Vec::new(alloc);
+    put_data(alloc, &mut bytes, width, &other)
+}
+
 /// Adds data, each number of which has so many bytes.
 fn add_data(
     alloc: Global,
     routine: &mut Assembler,
+    round: &Round<'_, '_, '_>,
+    trace: &mut Trace,
     width: usize,
     text: &[u8],
 ) -> Result<Option<LineError>, AllocError>
     requires some { 0 < width }
     requires few { width ≤ 8 }
-    ensures { IfOk result (λ refused. MatchOption refused (spec.AddsData width text.now routine.old routine.new)
-        (λ why. spec.RefusesData width text.now routine.old why)) }
+    ensures { IfOk result (λ refused. MatchOption refused
+        (spec.AddsData (view_of round.now) width text.now routine.old routine.new × (trace.new ≡ spec.behind_data (view_of round.now) text.now trace.old))
+        (λ why. spec.RefusesData (view_of round.now) width text.now routine.old why)) }
 {
+    let numbers = placed(alloc, round, text)?;
     let mut bytes = Vec::new(alloc);
-    let put = put_data(alloc, &mut bytes, width, text)?;
+    let put = put_data(alloc, &mut bytes, width, &numbers)?;
     if !put {
-        return Ok(Some(LineError::NotData));
+        let ever = is_ever_data(alloc, round, width, text)?;
+        return Ok(Some(if ever {
+            LineError::DoesNotFit
+        } else {
+            LineError::NotData
+        }));
     }
+    *trace = Trace {
+        after_data: true,
+        placed: trace.placed || numbers.as_slice() != text,
+    };
     told(routine.bytes(&bytes))
+}
+
+/// Adds a label that has its place here, and returns its number.
+fn add_mark(routine: &mut Assembler) -> Result<usize, BuildError>
+    ensures number { IfOk result (λ number. number ≡ length routine.old.labels) }
+    ensures added { OnOk result ((spec.mark_refusal routine.old ≡ None) × (routine.new ≡ spec.with_mark routine.old)) }
+    ensures cause { IfErr result (λ why. (spec.mark_refusal routine.old ≡ Some why) ⊎ (why ≡ Memory)) }
+{
+    let label = routine.label()?;
+    routine.place(label)?;
+    Ok(label.number() as usize)
+}
+
+/// Adds what fills up to an alignment.
+fn add_padding(
+    alloc: Global,
+    routine: &mut Assembler,
+    round: &Round<'_, '_, '_>,
+    trace: &Trace,
+    text: &[u8],
+) -> Result<Option<LineError>, AllocError>
+    ensures { IfOk result (λ refused. MatchOption refused
+        (spec.AddsPadding (view_of round.now) text.now routine.old trace.now routine.new)
+        (λ why. spec.RefusesPadding (view_of round.now) text.now routine.old trace.now why)) }
+{
+    let bits = routine.bits();
+    let alignment = alignment_in(alloc, text)?;
+    let n = match alignment {
+        None => return Ok(Some(LineError::BadAlignment)),
+        Some(n) => n,
+    };
+    let label = match add_mark(routine) {
+        Ok(label) => label,
+        Err(BuildError::Memory) => return Err(AllocError),
+        Err(why) => return Ok(Some(LineError::Refused { why })),
+    };
+    let count = gap(n, place_at(round, label));
+    let bytes = padding(alloc, bits, trace.after_data, count as usize)?;
+    told(routine.bytes(&bytes))
+}
+
+/// Adds what a text stands for with addresses in place of the names of labels.
+fn add_placed(
+    alloc: Global,
+    routine: &mut Assembler,
+    round: &Round<'_, '_, '_>,
+    body: &[u8],
+    placed: &[u8],
+) -> Result<Option<LineError>, AllocError>
+    requires { placed.now ≡ text_in (view_of round.now) body.now }
+    ensures { IfOk result (λ refused. MatchOption refused
+        (spec.AddsPlaced (view_of round.now) body.now routine.old routine.new)
+        (λ why. spec.RefusesPlaced (view_of round.now) body.now routine.old why)) }
+{
+    let bits = routine.bits();
+    let code = placed_code(alloc, bits, round.base, body, placed)?;
+    if is_nothing(&code) {
+        let never = is_never_code(alloc, bits, round, body)?;
+        return Ok(Some(if never {
+            LineError::NotCode
+        } else {
+            LineError::DoesNotFit
+        }));
+    }
+    push_code(routine, round.labels, placed, code)
 }
 
 /// Adds an instruction.
 fn add_code(
     alloc: Global,
     routine: &mut Assembler,
-    base: u64,
-    text: &[u8],
+    round: &Round<'_, '_, '_>,
+    trace: &mut Trace,
     body: &[u8],
 ) -> Result<Option<LineError>, AllocError>
     ensures { IfOk result (λ refused. MatchOption refused
-        ((code : Code) × (spec.IsCode routine.old.bits base body.now code × spec.AddsCode (lines.lines_in text.now) body.now code routine.old routine.new))
-        (λ why. (code : Code) × (spec.IsCode routine.old.bits base body.now code × spec.RefusesCode (lines.lines_in text.now) body.now code routine.old why))) }
+        (spec.AddsStated (view_of round.now) body.now routine.old trace.old routine.new trace.new)
+        (λ why. spec.RefusesStated (view_of round.now) body.now routine.old why)) }
 {
     let bits = routine.bits();
-    let code = code_in(alloc, bits, base, body)?;
-    push_code(routine, text, body, code)
+    let code = code_in(alloc, bits, round.base, body)?;
+    trace.after_data = false;
+    if is_whole(&code) {
+        return push_code(routine, round.labels, body, code);
+    }
+    let placed = placed_text(alloc, round, body)?;
+    if placed.as_slice() == body {
+        return push_code(routine, round.labels, body, code);
+    }
+    trace.placed = true;
+    add_placed(alloc, routine, round, body, &placed)
+}
+
+/// Adds what the words of a line say that is no data.
+fn add_further(
+    alloc: Global,
+    routine: &mut Assembler,
+    round: &Round<'_, '_, '_>,
+    trace: &mut Trace,
+    body: &[u8],
+) -> Result<Option<LineError>, AllocError>
+    ensures { IfOk result (λ refused. MatchOption refused
+        (spec.AddsFurther (view_of round.now) body.now routine.old trace.old routine.new trace.new)
+        (λ why. spec.RefusesFurther (view_of round.now) body.now routine.old trace.old why)) }
+{
+    let align = is_align(alloc, first_word(body))?;
+    if align {
+        let refused = add_padding(alloc, routine, round, trace, behind_word(body))?;
+        trace.placed = true;
+        Ok(refused)
+    } else {
+        add_code(alloc, routine, round, trace, body)
+    }
 }
 
 /// Adds what the words of a line say.
 fn add_words(
     alloc: Global,
     routine: &mut Assembler,
-    base: u64,
-    text: &[u8],
+    round: &Round<'_, '_, '_>,
+    trace: &mut Trace,
     body: &[u8],
 ) -> Result<Option<LineError>, AllocError>
-    ensures { IfOk result (λ refused. MatchOption refused (spec.AddsWords routine.old.bits base (lines.lines_in text.now) body.now routine.old routine.new)
-        (λ why. spec.RefusesWords routine.old.bits base (lines.lines_in text.now) body.now routine.old why)) }
+    ensures { IfOk result (λ refused. MatchOption refused
+        (spec.AddsWords (view_of round.now) body.now routine.old trace.old routine.new trace.new)
+        (λ why. spec.RefusesWords (view_of round.now) body.now routine.old trace.old why)) }
 {
     let width = data_width(first_word(body));
     if width > 0 {
-        add_data(alloc, routine, width, behind_word(body))
+        add_data(alloc, routine, round, trace, width, behind_word(body))
     } else {
-        add_code(alloc, routine, base, text, body)
+        add_further(alloc, routine, round, trace, body)
     }
 }
 
@@ -250,39 +337,37 @@ fn add_words(
 fn add_body(
     alloc: Global,
     routine: &mut Assembler,
-    base: u64,
-    names: &[u8],
-    text: &[u8],
+    round: &Round<'_, '_, '_>,
+    trace: &mut Trace,
     body: &[u8],
 ) -> Result<Option<LineError>, AllocError>
     ensures { IfOk result (λ refused. MatchOption refused
-        (spec.AddsBody routine.old.bits base (lines.lines_in names.now) (lines.lines_in text.now) body.now routine.old routine.new)
-        (λ why. spec.RefusesBody routine.old.bits base (lines.lines_in names.now) (lines.lines_in text.now) body.now routine.old why)) }
+        (spec.AddsBody (view_of round.now) body.now routine.old trace.old routine.new trace.new)
+        (λ why. spec.RefusesBody (view_of round.now) body.now routine.old trace.old why)) }
 {
     if body.is_empty() {
         return Ok(None);
     }
-    let words = resolved(alloc, names, body)?;
-    add_words(alloc, routine, base, text, &words)
+    let words = resolved(alloc, round.names, body)?;
+    add_words(alloc, routine, round, trace, &words)
 }
 
 /// Adds a line.
 fn add_line(
     alloc: Global,
     routine: &mut Assembler,
-    base: u64,
-    names: &[u8],
-    text: &[u8],
+    round: &Round<'_, '_, '_>,
+    trace: &mut Trace,
     line: &[u8],
 ) -> Result<Option<LineError>, AllocError>
     ensures { IfOk result (λ refused. MatchOption refused
-        (spec.AddsLine routine.old.bits base (lines.lines_in names.now) (lines.lines_in text.now) line.now routine.old routine.new)
-        (λ why. spec.RefusesLine routine.old.bits base (lines.lines_in names.now) (lines.lines_in text.now) line.now routine.old why)) }
+        (spec.AddsLine (view_of round.now) line.now routine.old trace.old routine.new trace.new)
+        (λ why. spec.RefusesLine (view_of round.now) line.now routine.old trace.old why)) }
 {
     let line = shown(line);
-    match place_label(routine, text, line) {
+    match place_label(routine, round.labels, line) {
         Some(why) => Ok(Some(why)),
-        None => add_body(alloc, routine, base, names, text, body_of(line)),
+        None => add_body(alloc, routine, round, trace, body_of(line)),
     }
 }
 
@@ -299,18 +384,16 @@ fn column_of(line: &[u8], why: LineError) -> usize
     }
 }
 
-/// The routine of the lines of a text, or why there is none.
+/// The routine of the lines of a text in a round, with what its last line passes on, or why there is none.
 fn routine_of(
     alloc: Global,
     bits: Bits,
-    base: u64,
-    names: &[u8],
-    text: &[u8],
-) -> Result<Assembler, AssembleError>
-    requires { bad_from (lines.lines_in names.now) 0 ≡ None }
-    ensures { MatchResult result (λ routine. spec.IsRoutineOf bits base names.now text.now routine) (λ why. spec.IsNoRoutine bits base names.now text.now why) }
+    round: &Round<'_, '_, '_>,
+) -> Result<(Assembler, Trace), AssembleError>
+    requires { bad_from (view_of round.now).names 0 ≡ None }
+    ensures { MatchResult result (λ built. spec.IsRoutineOf bits (view_of round.now) built.0 built.1) (λ why. rounds.IsNoRoutine bits (view_of round.now) why) }
 {
-    let count = labels_of(text);
+    let count = labels_of(round.labels.text);
     if count > MOST_LABELS {
         return Err(AssembleError::TooManyLabels);
     }
@@ -318,12 +401,13 @@ fn routine_of(
         Ok(routine) => routine,
         Err(_) => return Err(AssembleError::NoMemory),
     };
-    let mut rest = text;
+    let mut trace = no_trace();
+    let mut rest = round.labels.text;
     let mut number: u64 = 0;
     'lines: while !rest.is_empty() {
         let (line, behind) = first_line(rest);
         number += 1;
-        let refused = match add_line(alloc, &mut routine, base, names, text, line) {
+        let refused = match add_line(alloc, &mut routine, round, &mut trace, line) {
             Ok(refused) => refused,
             Err(_) => return Err(AssembleError::NoMemory),
         };
@@ -338,89 +422,23 @@ fn routine_of(
             }
         }
     }
-    Ok(routine)
+    Ok((routine, trace))
 }
 
-/// The routine of a text with names, or why there is none.
-fn named_routine(
+/// The routine of a text with names in a round, with what its last line passes on, or why there is none.
+pub(crate) fn named_routine(
     alloc: Global,
     bits: Bits,
-    base: u64,
-    names: &[u8],
-    text: &[u8],
-) -> Result<Assembler, AssembleError>
-    ensures { MatchResult result (λ routine. spec.IsRoutineOf bits base names.now text.now routine) (λ why. spec.IsNoRoutine bits base names.now text.now why) }
+    round: &Round<'_, '_, '_>,
+) -> Result<(Assembler, Trace), AssembleError>
+    ensures { MatchResult result (λ built. spec.IsRoutineOf bits (view_of round.now) built.0 built.1) (λ why. rounds.IsNoRoutine bits (view_of round.now) why) }
 {
-    let bad = match bad_name(alloc, names) {
+    let bad = match bad_name(alloc, round.names) {
         Ok(bad) => bad,
         Err(_) => return Err(AssembleError::NoMemory),
     };
     match bad {
         Some(number) => Err(AssembleError::AtName { number }),
-        None => routine_of(alloc, bits, base, names, text),
+        None => routine_of(alloc, bits, round),
     }
-}
-
-/// Returns the bytes of a routine as text, like [`assemble_code`], with numbers in place of names from the caller.
-///
-/// Each line of `names` is a name, `=` and a number, or has nothing but a comment. The name is no word of an operand, as a register is. Where no quote is open,
-/// its number takes its place in the lines of `text`, before these are read; labels keep their names. Of two lines of one name the first counts, and a name of
-/// the caller comes before a label.
-///
-/// ```
-/// let names = b"puts = 0x401180\nSIZE = 24";
-/// let text = b"mov edi, SIZE-1\n call puts\n ret";
-/// let made = assemble_code_with(rt.alloc(), Bits::B64, 0x40_1000, names, text)?;
-/// println!(rt; "{}", hex::encode(rt.alloc(), made.bytes())?)?; // bf17000000e876010000c3
-/// ```
-///
-/// Errors: `AtName`: the first line of `names` that is neither; then those of [`assemble_code`].
-pub fn assemble_code_with(
-    alloc: Global,
-    bits: Bits,
-    base: u64,
-    names: &[u8],
-    text: &[u8],
-) -> Result<Assembled, AssembleError>
-    ensures { spec.IsNamedAnswer bits base names.now text.now result }
-{
-    let routine = match named_routine(alloc, bits, base, names, text) {
-        Ok(routine) => routine,
-        Err(why) => return Err(why),
-    };
-    match routine.finish(alloc, base) {
-        Ok(made) => Ok(made),
-        Err(why) => Err(AssembleError::Unfinished { why }),
-    }
-}
-
-/// Returns the bytes of a routine as text, with its first byte at the address `base`.
-///
-/// A line feed ends each line. A line is, in this order and each optional: a label, which is a name and a colon; an instruction or data; and a comment from
-/// `;` or `#` on. A name has letters, digits, `_`, `.`, `$` and `@`, and begins with no digit.
-///
-/// An instruction is an Intel text as `read_intel` reads it at `base`, or such a text with a name in place of the number to which a near branch or an operand
-/// at RIP or EIP goes. Otherwise it is read as people write it: in any case and with any blanks, with the manual's other names, numbers in other notations and
-/// sums, and addresses with their terms in any order. The size of an address may be left out where just one size has an instruction.
-///
-/// Data is `db`, `dw`, `dd` or `dq` with numbers and strings, which commas separate.
-///
-/// ```
-/// let text =
-///     b"CMP EDI, 3\n jnb none\n movzx eax, byte ptr [table]\n ret\nnone: xor eax,eax\n ret\ntable: db 7, 2Ah, 'A'";
-/// let made = assemble_code(rt.alloc(), Bits::B64, 0x40_1000, text)?;
-/// println!(rt; "{}", hex::encode(rt.alloc(), made.bytes())?)?; // 83ff0373080fb60504000000c331c0c3072a41
-/// ```
-///
-/// Errors: `TooManyLabels`; `AtLine` names the first line that is refused, and why; `Unfinished`: the routine has no bytes, as
-/// [`Assembler::finish`](code_assembler::Assembler::finish) says. `NoMemory` can replace each.
-pub fn assemble_code(
-    alloc: Global,
-    bits: Bits,
-    base: u64,
-    text: &[u8],
-) -> Result<Assembled, AssembleError>
-    ensures { spec.IsTextAnswer bits base text.now result }
-{
-    assemble_code_with(alloc, bits, base, b"", text)
 }

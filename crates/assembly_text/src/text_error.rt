@@ -21,6 +21,12 @@ pub enum LineError {
     /// The routine refuses the line: there are too many items, the label is placed by an earlier line, or the instruction has no encoding.
     #[error("{why}")]
     Refused { why: BuildError },
+    /// The line names a label whose address, or a sum with it, does not fit there.
+    #[error("the address of a label does not fit")]
+    DoesNotFit,
+    /// What follows `align` is no power of two from 1 to 4096.
+    #[error("an alignment is a power of two from 1 to 4096")]
+    BadAlignment,
 }
 
 /// Why a text has no bytes. The first line that is refused is reported.
@@ -49,4 +55,7 @@ pub enum AssembleError {
     Unfinished {
         why: FinishError,
     },
+    /// The labels did not have the addresses with which the lines were read, in none of 16 rounds.
+    #[error("the addresses of the labels do not settle")]
+    Unsettled,
 }

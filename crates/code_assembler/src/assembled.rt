@@ -29,14 +29,21 @@ impl Model for Assembled {
     ghost invariant = { λ a. ⊤ };
 }
 
+/// Where the label of a number stands, if it has a place.
+fn place_numbered(labels: &[Option<u32>], number: usize) -> Option<u32>
+    ensures { result ≡ label_place labels.now number }
+{
+    match labels.get(number) {
+        Some(place) => *place,
+        None => None,
+    }
+}
+
 /// Where a label stands, if it has a place.
 pub(crate) fn place_of(labels: &[Option<u32>], label: u32) -> Option<u32>
     ensures { result ≡ label_place labels.now label }
 {
-    match labels.get(label as usize) {
-        Some(place) => *place,
-        None => None,
-    }
+    place_numbered(labels, label as usize)
 }
 
 /// The address of the item that a label precedes.
@@ -78,5 +85,12 @@ impl Assembled {
         ensures { result ≡ label_address self.now label.number }
     {
         start_of(self.moved.starts(), place_of(&self.labels, label.number))
+    }
+
+    /// Returns the address of the label before which so many were made, as [`Assembled::address`] does. There is none if no more labels were made.
+    pub fn address_at(&self, number: usize) -> Option<u64>
+        ensures { result ≡ label_address self.now number }
+    {
+        start_of(self.moved.starts(), place_numbered(&self.labels, number))
     }
 }

@@ -73,6 +73,75 @@ const CASES: &[Case] = &[
         "movzx eax, byte ptr [table]\nret\ntable: db 1, -1, 'a,b', \"it's\"\nDW 'abc', 1234h\ndd 10+2\ndq -1",
         "0fb60501000000c301ff612c62697427736162630034120c000000ffffffffffffffff",
     ),
+    // labels as numbers: in data, as immediates and in addresses
+    (
+        Bits::B64,
+        0x40_1000,
+        "jmp [table+rax*8]\none: mov eax, table\n push one\n cmp rax, two+1\ntwo: ret\ntable: dq one, two-1\n dd end-table, 'one'\n dw two-one, 7\nend:",
+        "ff24c518104000b8181040006807104000483d18104000c3071040000000000016104000000000001c0000006f6e650010000700",
+    ),
+    (
+        Bits::B64,
+        0x40_1000,
+        "mov eax, [table+4]\n lea rcx, [rip+table-1]\n mov ecx, end-table\n jmp table+2\ntable: db 1,2,3\nend:",
+        "8b0512000000488d0d06000000b903000000eb02010203",
+    ),
+    (
+        Bits::B32,
+        0x1000,
+        "mov eax, [table]\nmov byte ptr [ebx+table+1], 5\ntable: dd table",
+        "a10c100000c6830d100000050c100000",
+    ),
+    (
+        Bits::B16,
+        0x100,
+        "mov dx, msg\nmov ah, 9\nint 21h\nret\nmsg: db 'Hi$'",
+        "ba0801b409cd21c3486924",
+    ),
+    (
+        Bits::B64,
+        0x40_1000,
+        "nop\nmov al, here\nhere:",
+        "line 2, column 1: the address of a label does not fit",
+    ),
+    (
+        Bits::B64,
+        0x40_1000,
+        "db 1\nhere: dw here",
+        "line 2, column 7: the address of a label does not fit",
+    ),
+    (
+        Bits::B64,
+        0x40_1000,
+        "here: frob here",
+        "line 1, column 7: no instruction has this text",
+    ),
+    // a number that is 128 if it takes one byte, and 125 if it takes four
+    (
+        Bits::B64,
+        0x40_1000,
+        "from: cmp ecx, 131-end+from\nend:",
+        "the addresses of the labels do not settle",
+    ),
+    // alignment: NOPs behind code, zeros behind data
+    (
+        Bits::B64,
+        0x40_1000,
+        "align 8\nret\nALIGN 16 ; up\nloop:\n ret\n db 1\n align 4\n align 8\nend: dd end",
+        "c3660f1f840000000000660f1f440000c30100000000000018104000",
+    ),
+    (
+        Bits::B16,
+        0,
+        "ret\nalign 16\nret",
+        "c30f1f40000f1f40000f1f40000f1f00c3",
+    ),
+    (
+        Bits::B64,
+        0,
+        "nop\n align 3",
+        "line 2, column 2: an alignment is a power of two from 1 to 4096",
+    ),
     (
         Bits::B64,
         0,

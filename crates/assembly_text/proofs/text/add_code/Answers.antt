@@ -1,11 +1,36 @@
-use Rattle.std.proofs.Common.{subst}
+use Rattle.std.proofs.Common.{◌≡◌, true, false, List, ℕ, refl, sym, ap, ◌∙◌, subst}
+use Rattle.std.specs.Prelude.{bytes_eq}
 use Rattle.x86_values.specs.declared.Bits.{Bits}
+use Rattle.assembly_text.specs.Placing.{view_of, placed_text}
 use Rattle.assembly_text.specs.Text.{IsCode}
-use Rattle.assembly_text.proofs.Telling.{told_more}
+use Rattle.assembly_text.proofs.Telling.{whole_closed, same_closed, other_open, closed_told, placed_told}
 use Rattle.assembly_text.proofs.text.add_code.Goals as goal
+
+pub returns-then-is_whole : goal.returns-then-is_whole
+returns-then-is_whole c =
+    let v = view_of c.args.round.now in
+    let body = c.args.body.now in
+    let code = c.in_ok-code.code in
+    let is : IsCode c.args.routine.now.bits v.base body code = subst (λ (b : Bits). IsCode b v.base body code) c.bits-bits.ensures c.in_ok-code.ensures in
+    closed_told v body code _ _ c.args.trace.now (record c.args.trace.now { after_data = false }) c.push_code.result is (whole_closed v body code (sym c.is_whole.ensures ∙ c.if-is_whole.true)) refl c.push_code.ensures
+
+pub returns-then-eq : goal.returns-then-eq
+returns-then-eq c =
+    let v = view_of c.args.round.now in
+    let body = c.args.body.now in
+    let code = c.in_ok-code.code in
+    let is : IsCode c.args.routine.now.bits v.base body code = subst (λ (b : Bits). IsCode b v.base body code) c.bits-bits.ensures c.in_ok-code.ensures in
+    let words = sym (c.as_slice.ensures.value ∙ c.in_ok-placed.ensures) in
+    let same : bytes_eq (placed_text v body) body ≡ true = ap (λ (x : List ℕ). bytes_eq x body) words ∙ (sym c.eq.ensures ∙ c.if-eq.true) in
+    closed_told v body code _ _ c.args.trace.now (record c.args.trace.now { after_data = false }) c.push_code-then-eq.result is (same_closed v body code same) refl c.push_code-then-eq.ensures
 
 pub returns : goal.returns
 returns c =
-    let is : IsCode c.args.routine.now.bits c.args.base c.args.body.now c.in_ok-code.code =
-    subst (λ (b : Bits). IsCode b c.args.base c.args.body.now c.in_ok-code.code) c.bits-bits.ensures c.in_ok-code.ensures in
-    told_more c.push_code.result _ _ _ _ (λ h. (c.in_ok-code.code, (is, h))) (λ w h. (c.in_ok-code.code, (is, h))) c.push_code.ensures
+    let v = view_of c.args.round.now in
+    let body = c.args.body.now in
+    let code = c.in_ok-code.code in
+    let is : IsCode c.args.routine.now.bits v.base body code = subst (λ (b : Bits). IsCode b v.base body code) c.bits-bits.ensures c.in_ok-code.ensures in
+    let words = sym (c.as_slice.ensures.value ∙ c.in_ok-placed.ensures) in
+    let other : bytes_eq (placed_text v body) body ≡ false = ap (λ (x : List ℕ). bytes_eq x body) words ∙ (sym c.eq.ensures ∙ c.if-eq.false) in
+    placed_told v body code _ _ c.args.trace.now (record { after_data = false; placed = true }) c.add_placed.result is
+    (other_open v body code (sym c.is_whole.ensures ∙ c.if-is_whole.false) other) refl c.add_placed.ensures

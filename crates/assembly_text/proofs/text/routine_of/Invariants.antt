@@ -1,11 +1,12 @@
 use Rattle.std.proofs.Common.{◌≤◌, ◌+◌, length}
+use Rattle.assembly_text.specs.Placing.{view_of}
 use Rattle.assembly_text.proofs.Going.{IsGone}
 use Rattle.assembly_text.proofs.text.routine_of.Given as goal
 
 abbrev pub invariant-lines : goal.invariant-lines
 invariant-lines l = record {
-  gone : IsGone l.fn.bits l.base l.names l.text l.rest l.number l.routine;
-  few : l.number + length l.rest ≤ length l.text;
+  gone : IsGone l.fn.bits (view_of l.round) l.rest l.number l.routine l.trace;
+  few : l.number + length l.rest ≤ length l.round.labels.now.text.now;
 }
 
 abbrev pub decreases-lines : goal.decreases-lines

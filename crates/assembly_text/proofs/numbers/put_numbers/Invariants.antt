@@ -1,11 +1,11 @@
 use Rattle.std.proofs.Common.{◌≡◌, ◌++◌, length}
-use Rattle.assembly_text.specs.Lines.{lines_in}
 use Rattle.assembly_text.specs.Constants.{resolved_from}
-use Rattle.assembly_text.proofs.constants.resolved.Given as goal
+use Rattle.assembly_text.specs.Placing.{number_in}
+use Rattle.assembly_text.proofs.numbers.put_numbers.Given as goal
 
 abbrev pub invariant-words : goal.invariant-words
 invariant-words l =
-    l.out.items ++ resolved_from (lines_in l.names) l.quote 0 l.rest ≡ resolved_from (lines_in l.names) 0 0 l.text
+    l.out.items ++ resolved_from (number_in l.numbers) l.quote 0 l.rest ≡ l.fn.out.items ++ resolved_from (number_in l.numbers) 0 0 l.text
 
 abbrev pub decreases-words : goal.decreases-words
 decreases-words l = length l.rest

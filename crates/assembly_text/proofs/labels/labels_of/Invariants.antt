@@ -1,7 +1,7 @@
 use Rattle.std.proofs.Common.{◌≡◌, ◌≤◌, ◌+◌, length}
 use Rattle.assembly_text.specs.Lines.{lines_in}
-use Rattle.assembly_text.specs.Text.{labels_from}
-use Rattle.assembly_text.proofs.text.labels_of.Given as goal
+use Rattle.assembly_text.specs.Labels.{labels_from}
+use Rattle.assembly_text.proofs.labels.labels_of.Given as goal
 
 abbrev pub invariant-lines : goal.invariant-lines
 invariant-lines l = record {

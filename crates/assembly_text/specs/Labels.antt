@@ -1,0 +1,32 @@
+-- The labels of a text: their numbers, in the order of their lines.
+use Rattle.std.specs.Prelude.{ℕ, ◌+◌, nat_lt, if◌then◌else◌, List, [], ◌∷◌, Option, Some, None, bytes_eq}
+use Rattle.assembly_text.specs.Lines.{shown, has_label, label_of}
+
+-- the number of a name by the label of a line, and by the lines behind it
+abbrev pub number_by : Option (List ℕ) → (ℕ → Option ℕ) → List ℕ → ℕ → Option ℕ
+number_by None behind name count = behind count
+number_by (Some label) behind name count = if bytes_eq label name then Some count else behind (count + 1)
+
+-- the number of the first label of a name among some lines, behind so many labels
+unfoldable pub number_from : List (List ℕ) → List ℕ → ℕ → Option ℕ
+number_from [] name count = None
+number_from (line ∷ lines) name count = number_by (label_of (shown line)) (number_from lines name) name count
+
+-- the first of two numbers, if there is one
+abbrev pub first_number : Option ℕ → Option ℕ → Option ℕ
+first_number (Some n) other = Some n
+first_number None other = other
+
+-- a number below another
+abbrev pub below : Option ℕ → ℕ → Option ℕ
+below None count = None
+below (Some n) count = if nat_lt n count then Some n else None
+
+-- the number of a name, of so many labels
+abbrev pub number_of : List (List ℕ) → ℕ → List ℕ → Option ℕ
+number_of lines count name = below (number_from lines name 0) count
+
+-- how many labels some lines have, behind so many
+unfoldable pub labels_from : List (List ℕ) → ℕ → ℕ
+labels_from [] count = count
+labels_from (line ∷ lines) count = labels_from lines (if has_label (shown line) then count + 1 else count)

@@ -1,0 +1,90 @@
+//! The labels of a text.
+
+ghost use Rattle.std.specs.Prelude.{◌≡◌, ℕ, List, length, bytes_eq, if◌then◌else◌, IfOk, OnOk, MatchOption, Some, None};
+ghost use Rattle.std.specs.HashMap as hash;
+ghost use Rattle.assembly_text.specs.Lines as lines;
+ghost use Rattle.assembly_text.specs.Labels as spec;
+
+use crate::line::{first_line, label_of, shown};
+use code_assembler::{Assembler, Label};
+use std::alloc::{AllocError, Global};
+use std::collections::HashMap;
+
+/// The labels of a text, found by their names.
+#[derive(Drop)]
+pub(crate) struct Labels<'a> {
+    /// The text.
+    pub(crate) text: &'a [u8],
+    /// The number of the first label of each name.
+    numbers: HashMap<&'a [u8], usize>,
+    ghost right: { (name : List ℕ) → hash.get_by (λ k. bytes_eq name k.now) numbers ≡ spec.number_from (lines.lines_in text.now) name 0 },
+}
+
+/// Gives a name a number, if it has none.
+fn add_name<'a>(
+    numbers: &mut HashMap<&'a [u8], usize>,
+    label: &'a [u8],
+    number: usize,
+) -> Result<(), AllocError>
+    ensures { OnOk result ((name : List ℕ) → hash.get_by (λ k. bytes_eq name k.now) numbers.new
+        ≡ spec.first_number (hash.get_by (λ k. bytes_eq name k.now) numbers.old) (if bytes_eq label.now name then Some number else None)) }
+{
+    if !numbers.contains_key(label) {
+        numbers.insert(label, number)?;
+    }
+    Ok(())
+}
+
+/// The labels of a text.
+#[tactic(auto, unfolding(crate::specs::Labels::number_from))]
+pub(crate) fn labels_in(alloc: Global, text: &[u8]) -> Result<Labels<'_>, AllocError>
+    ensures { IfOk result (λ labels. labels.text.now ≡ text.now) }
+{
+    let mut numbers = HashMap::new(alloc);
+    let mut rest = text;
+    let mut count = 0;
+    'lines: while !rest.is_empty() {
+        let (line, behind) = first_line(rest);
+        if let Some(label) = label_of(shown(line)) {
+            add_name(&mut numbers, label, count)?;
+            count += 1;
+        }
+        rest = behind;
+    }
+    Ok(Labels { text, numbers })
+}
+
+/// The number of the first label of a name.
+pub(crate) fn number_from(labels: &Labels<'_>, name: &[u8]) -> Option<usize>
+    ensures { result ≡ spec.number_from (lines.lines_in labels.now.text.now) name.now 0 }
+{
+    labels.numbers.get(name).copied()
+}
+
+/// The label of a name.
+pub(crate) fn label_named(routine: &Assembler, labels: &Labels<'_>, name: &[u8]) -> Option<Label>
+    ensures { MatchOption result (spec.number_of (lines.lines_in labels.now.text.now) (length routine.now.labels) name.now ≡ None)
+        (λ label. spec.number_of (lines.lines_in labels.now.text.now) (length routine.now.labels) name.now ≡ Some label.number) }
+{
+    match number_from(labels, name) {
+        None => None,
+        Some(number) => routine.label_at(number),
+    }
+}
+
+/// How many labels a text has.
+#[tactic(auto, unfolding(crate::specs::Labels::labels_from))]
+pub(crate) fn labels_of(text: &[u8]) -> usize
+    ensures { result ≡ spec.labels_from (lines.lines_in text.now) 0 }
+{
+    let mut rest = text;
+    let mut count = 0;
+    'lines: while !rest.is_empty() {
+        let (line, behind) = first_line(rest);
+        if label_of(shown(line)).is_some() {
+            count += 1;
+        }
+        rest = behind;
+    }
+    count
+}
