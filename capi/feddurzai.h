@@ -22,10 +22,11 @@
  *
  * Threads: the library has no global state and takes no locks, so any number of threads may call it at once.
  *
- * Memory: feddurzai_move, feddurzai_move_outside, feddurzai_move_unlisted, feddurzai_move_blocks, feddurzai_step, feddurzai_step_call,
- * feddurzai_flow, feddurzai_flow_from, feddurzai_flow_unlisted, feddurzai_look, feddurzai_format, feddurzai_format_code and all
- * feddurzai_detour functions call malloc, realloc and free, and free all that they allocate before they return. All
- * other functions allocate nothing and may be called from a signal handler or from a hook of malloc.
+ * Memory: feddurzai_move, feddurzai_move_outside, feddurzai_move_unlisted, feddurzai_move_blocks, feddurzai_step,
+ * feddurzai_step_call, feddurzai_flow, feddurzai_flow_from, feddurzai_flow_unlisted, feddurzai_look, feddurzai_format,
+ * feddurzai_format_code, feddurzai_assemble_code and all feddurzai_detour functions call malloc, realloc and free, and free
+ * all that they allocate before they return. All other functions allocate nothing and may be called from a signal handler
+ * or from a hook of malloc.
  *
  * The header is C99 and C++. Numbers are in the machine's byte order. Lengths and sizes are in bytes. "SDM" is the
  * Intel 64 and IA-32 Architectures Software Developer's Manual; sections are of its volume 2 if no volume is named. The
@@ -44,7 +45,7 @@ extern "C" {
 /* ---- versions ---------------------------------------------------------------------------------------------- */
 
 /* The interface that this header declares. It rises when a struct, a number or a function changes. */
-#define FEDDURZAI_INTERFACE 10
+#define FEDDURZAI_INTERFACE 11
 
 /*
  * Returns the interface of the linked library. If it is not FEDDURZAI_INTERFACE, the library does not match this
@@ -63,10 +64,10 @@ uint32_t feddurzai_version(void);
 /*
  * Statuses. A function that returns int32_t returns 0 or more on success and one of these on refusal.
  *
- * After a refusal the function has written nothing, with one exception: feddurzai_move, feddurzai_move_outside,
- * feddurzai_move_unlisted, feddurzai_move_blocks, feddurzai_step, feddurzai_step_call, feddurzai_step_unlisted, feddurzai_detour,
- * feddurzai_detour_unlisted, feddurzai_detour_with, feddurzai_detour_endbr and feddurzai_detour_padding always write
- * their report, unless they return FEDDURZAI_NULL.
+ * After a refusal the function has written nothing, with one exception: feddurzai_assemble_code, feddurzai_move,
+ * feddurzai_move_outside, feddurzai_move_unlisted, feddurzai_move_blocks, feddurzai_step, feddurzai_step_call,
+ * feddurzai_step_unlisted, feddurzai_detour, feddurzai_detour_unlisted, feddurzai_detour_with, feddurzai_detour_endbr and
+ * feddurzai_detour_padding always write their report, unless they return FEDDURZAI_NULL.
  *
  * If several refusals apply, the function returns the first in the order of its comment. FEDDURZAI_NULL precedes all
  * others. Every function that takes a pointer can return it, so the comments do not repeat it.
@@ -105,7 +106,17 @@ enum {
     FEDDURZAI_OVERLAPS = -29,       /* the trampoline would lie in the bytes of the function */
     FEDDURZAI_CALLS = -30,          /* a moved call would hand an address in the trampoline to what it calls */
     FEDDURZAI_PADDING = -31,        /* the padding in front of the function has too few bytes, or other code */
-    FEDDURZAI_BAD_OPTIONS = -32     /* a number of the options names no choice */
+    FEDDURZAI_BAD_OPTIONS = -32,    /* a number of the options names no choice */
+    FEDDURZAI_BAD_NAMES = -33,      /* a line of the names is no name with a number */
+    FEDDURZAI_TOO_MANY_LABELS = -34, /* a text has more than FEDDURZAI_MAX_MOVED labels */
+    FEDDURZAI_NO_SIZE = -35,        /* addresses of several sizes fit the text, and no operand tells which: write byte, word .. */
+    FEDDURZAI_BAD_DATA = -36,       /* data has what is no number that fits, and no string */
+    FEDDURZAI_UNKNOWN = -37,        /* no line has a label of this name */
+    FEDDURZAI_TWICE = -38,          /* an earlier line has a label of the same name */
+    FEDDURZAI_UNPLACED = -39,       /* a label that is used follows the last of FEDDURZAI_MAX_MOVED instructions and bytes */
+    FEDDURZAI_UNFIT = -40,          /* the address of a label does not fit where it stands */
+    FEDDURZAI_BAD_ALIGNMENT = -41,  /* an alignment is no power of two from 1 to 4096 */
+    FEDDURZAI_UNSETTLED = -42       /* the addresses of the labels did not settle in 16 rounds (docs/assembler.md) */
     /* -256 and below: the instruction has no encoding, see FEDDURZAI_CAUSE */
 };
 
@@ -610,6 +621,54 @@ int32_t feddurzai_assemble(uint32_t bits, uint64_t ip, const char *text, size_t 
  * Returns that number, 1 to 15, or FEDDURZAI_BAD_MODE, _NO_TEXT; then *instr is unchanged.
  */
 int32_t feddurzai_read_intel(uint32_t bits, uint64_t ip, const char *text, size_t len, feddurzai_instr *instr);
+
+/* A label of a routine. Its name is the `len` bytes of the text that begin at `offset`. */
+typedef struct feddurzai_label {
+    uint64_t address;       /* its address; 0 if it has none */
+    uint64_t offset;        /* where its name begins in the text */
+    uint64_t len;           /* the length of its name */
+    uint64_t line;          /* its line, from 1 */
+    uint8_t has_address;    /* 1; 0 only for a label behind the last of FEDDURZAI_MAX_MOVED instructions and bytes of data */
+} feddurzai_label;
+
+/* What feddurzai_assemble_code reports. Fields that do not apply are 0. */
+typedef struct feddurzai_routine_report {
+    uint64_t bytes;         /* the size of the routine, with its slots */
+    uint64_t slots;         /* the number of slots of 8 bytes at its end: of addresses that no branch reaches */
+    uint64_t labels;        /* the number of its labels */
+    uint64_t line;          /* after a refusal: the refused line of the text (FEDDURZAI_BAD_NAMES: of the names), from 1; 0 if
+                               no line is the cause */
+    uint64_t column;        /* the column of what is refused in a line of the text, from 1, counted in bytes */
+    uint64_t at;            /* _TOO_FAR, _UNPLACED: the number of the instruction, from 0; each byte of data counts as one */
+    uint64_t address;       /* _TOO_FAR: its target; _WRAPS: the end that is past the address space */
+} feddurzai_routine_report;
+
+/*
+ * Assembles a routine: lines of instructions, labels and data. No branch is longer than it has to be.
+ *
+ *  - bits, base: the mode, and the address of the first byte.
+ *  - text, len: the lines, each ended by a line feed; the last may lack it. A line has, each optional, a label and a colon;
+ *    an instruction in Intel syntax as people write it, data (db, dw, dd, dq), or an alignment (align 16); and a comment from
+ *    ; or # on. A label may be named wherever a number stands: as a branch's target, as memory, as data. docs/assembler.md
+ *    describes the texts.
+ *  - names, names_len: a line for each name with a number, as the address of a function: `puts = 0x401180`.
+ *  - code, room: receive the bytes.
+ *  - labels, label_room: receive the labels, in the order of their lines.
+ *  - report: receives the report. If a buffer is too small, it has the sizes all the same. So call once without buffers, and
+ *    again with those of report.bytes bytes and report.labels labels.
+ *
+ * Returns 0, or FEDDURZAI_BAD_MODE; _BAD_NAMES for the first such line of the names; _TOO_MANY_LABELS; what is wrong with the
+ * first refused line of the text: _NO_TEXT (it is not the text of an instruction), _NO_SIZE, _BAD_DATA, _UNKNOWN, _TWICE,
+ * _UNFIT, _BAD_ALIGNMENT, _TOO_MANY (instructions and bytes of data), or a cause (see FEDDURZAI_CAUSE; its operand is always
+ * 0); then _UNPLACED, _WRAPS, _TOO_FAR; then _UNSETTLED; and _NO_ROOM. _NO_MEMORY may replace any of those after _BAD_MODE. The call allocates memory.
+ *
+ *     const char *loop = "again: add eax, ecx\n dec ecx\n jne again ; until it is 0\n ret";
+ *     said = feddurzai_assemble_code(64, 0x401000, loop, strlen(loop), NULL, 0, bytes, sizeof bytes, labels, 1, &routine);
+ *     // said is 0, routine.bytes is 7: 01 c8 ff c9 75 fa c3. labels[0].address is 0x401000, and its name has 5 bytes
+ */
+int32_t feddurzai_assemble_code(uint32_t bits, uint64_t base, const char *text, size_t len, const char *names,
+    size_t names_len, uint8_t *code, size_t room, feddurzai_label *labels, size_t label_room,
+    feddurzai_routine_report *report);
 
 /* The forms of feddurzai_jump. Lengths are in bytes. */
 enum {
@@ -1941,6 +2000,17 @@ static inline int32_t feddurzai_checked_read_intel(uint32_t bits, uint64_t ip, c
     return feddurzai_read_intel(bits, ip, text, len, instr);
 }
 
+static inline int32_t feddurzai_checked_assemble_code(uint32_t bits, uint64_t base, const char *text, size_t len,
+    const char *names, size_t names_len, uint8_t *code, size_t room, feddurzai_label *labels, size_t label_room,
+    feddurzai_routine_report *report)
+{
+    if (feddurzai_is_null(text, len) || feddurzai_is_null(names, names_len) || feddurzai_is_null(code, room))
+        return FEDDURZAI_NULL;
+    if (feddurzai_is_null(labels, label_room) || report == NULL)
+        return FEDDURZAI_NULL;
+    return feddurzai_assemble_code(bits, base, text, len, names, names_len, code, room, labels, label_room, report);
+}
+
 static inline int32_t feddurzai_checked_jump(uint32_t bits, uint64_t at, uint64_t target, uint32_t form, uint8_t *out,
     size_t room)
 {
@@ -2242,6 +2312,7 @@ static inline int32_t feddurzai_checked_detour_padding(uint32_t bits, uint64_t i
 #define feddurzai_encoded_len feddurzai_checked_encoded_len
 #define feddurzai_assemble feddurzai_checked_assemble
 #define feddurzai_read_intel feddurzai_checked_read_intel
+#define feddurzai_assemble_code feddurzai_checked_assemble_code
 #define feddurzai_jump feddurzai_checked_jump
 #define feddurzai_register_text feddurzai_checked_register_text
 #define feddurzai_segment_text feddurzai_checked_segment_text

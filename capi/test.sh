@@ -416,6 +416,10 @@ for backend in llvm rattle; do
     "$out/step" >"$work/step.log" || die_with "$work/step.log" "$backend: examples/step.c: a stepped instruction had another result"
     say "$backend: examples/step.c: $(tail -1 "$work/step.log")"
 
+    gcc -std=gnu99 -O2 $warn -I"$here" "$here/examples/assemble.c" "$out/libfeddurzai.a" -o "$out/assemble"
+    "$out/assemble" >"$work/assemble.log" || die_with "$work/assemble.log" "$backend: examples/assemble.c: the function counts wrong"
+    say "$backend: examples/assemble.c: $(tail -1 "$work/assemble.log")"
+
     # at each instruction that runs, the stack is walked to main by the unwind information that build.sh adds
     gcc -std=gnu99 -O1 $warn -I"$here" "$here/tests/unwind.c" "$out/libfeddurzai.so" -Wl,-rpath,"$out" -o "$out/unwind"
     # the .debug_frame of `rattle` calls registers undefined that are saved late: their values are not compared
@@ -435,6 +439,8 @@ for backend in llvm rattle; do
     printf '%s\n' '0000000000401000 mov eax, edi rax OF SF ZF AF PF CF' '0000000000401002 neg eax OF SF ZF AF PF CF' \
         '0000000000401004 cmovs eax, edi' '0000000000401007 ret' | cmp - "$work/liveness.log" || die_with "$work/liveness.log" "$backend: examples/liveness.py printed something else than expected"
     say "$backend: examples/liveness.py reports the dead registers of a function of four instructions"
+    python3 "$here/examples/assemble.py" >"$work/assemble.log" 2>&1 || die_with "$work/assemble.log" "$backend: examples/assemble.py failed"
+    say "$backend: examples/assemble.py: $(tail -1 "$work/assemble.log")"
 
     tries_gdb "$here/gdb.py"
     tries_inspector

@@ -213,6 +213,8 @@ for kind in shared static; do
     threads=$(tail -1 "$log")
     inside "step, $kind" /try/c/step
     stepped=$(tail -1 "$log")
+    inside "assemble, $kind" /try/c/assemble
+    assembled=$(tail -1 "$log")
     inside "unwind, $kind" /try/c/unwind
     walked=$(tail -1 "$log")
     # the backtrace from the malloc call within feddurzai_move
@@ -220,7 +222,7 @@ for kind in shared static; do
     says '^#0 .* malloc ' "gdb, $kind: the breakpoint of malloc"
     says '^#[1-9].* feddurzai_move ' "gdb, $kind: the backtrace"
     says '^#[1-9][0-9]* .* main ' "gdb, $kind: the backtrace"
-    say "libfeddurzai-dev, $kind: disassemble.c lists like the program; hook.c ran; hook_many.c: $many; step.c: $stepped"
+    say "libfeddurzai-dev, $kind: disassemble.c lists like the program; hook.c ran; hook_many.c: $many; step.c: $stepped; assemble.c: $assembled"
     say "libfeddurzai-dev, $kind: hook_libraries.c: $libraries; hook_threads.c: $threads"
     say "libfeddurzai-dev, $kind: $walked; the backtrace of gdb goes from malloc through feddurzai_move to main"
 done

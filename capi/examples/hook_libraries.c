@@ -348,14 +348,21 @@ static void note_functions(struct library *it)
 
 /* ---- stubs */
 
-static void put_offset(uint8_t *at, const void *target)
+/* Writes the stub of a hook: it counts the call, and jumps to the trampoline. Returns 0 if it cannot. */
+static int write_stub(struct hook *hook, uint8_t *stub)
 {
-    int64_t far = (const uint8_t *)target - (at + 4);
-    int32_t offset = (int32_t)far;
-    memcpy(at, &offset, sizeof offset);
+    static const char lines[] =
+        "lock inc qword [rel calls]\n"
+        "jmp qword [rel original]";
+    char names[TEXTS];
+    feddurzai_routine_report report;
+    int len = snprintf(names, sizeof names, "calls = 0x%" PRIxPTR "\noriginal = 0x%" PRIxPTR, (uintptr_t)&hook->calls,
+        (uintptr_t)&hook->original);
+    hook->stub = stub;
+    return feddurzai_assemble_code(64, (uintptr_t)stub, lines, sizeof lines - 1, names, (size_t)len, stub, STUB, NULL, 0, &report) == 0;
 }
 
-/* writes each stub: lock inc qword [rel calls]; jmp [rel original]. The stubs follow the hooks' table, out of reach of the libraries */
+/* makes a stub for each hook. The stubs follow the hooks' table, out of reach of the libraries */
 static int make_stubs(void)
 {
     size_t table = (sizeof *hooks * MOST + 4095) / 4096 * 4096, code = (size_t)MOST * STUB;
@@ -364,13 +371,10 @@ static int make_stubs(void)
     if (pages == MAP_FAILED)
         return 0;
     hooks = (struct hook *)(void *)pages;
-    for (k = 0; k < MOST; k++) {
-        uint8_t *stub = pages + table + (size_t)k * STUB;
-        memcpy(stub, "\xf0\x48\xff\x05----\xff\x25----\xcc\xcc", STUB);
-        put_offset(stub + 4, &hooks[k].calls);
-        put_offset(stub + 10, &hooks[k].original);
-        hooks[k].stub = stub;
-    }
+    memset(pages + table, 0xcc, code);
+    for (k = 0; k < MOST; k++)
+        if (!write_stub(&hooks[k], pages + table + (size_t)k * STUB))
+            return 0;
     return mprotect(pages + table, code, PROT_READ | PROT_EXEC) == 0;
 }
 

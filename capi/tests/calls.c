@@ -107,6 +107,18 @@ static void check_layout(void)
     CHECK(offsetof(feddurzai_step_report, address), 16);
     CHECK(offsetof(feddurzai_step_report, len), 24);
     CHECK(offsetof(feddurzai_step_report, done_at), 25);
+    CHECK(sizeof(feddurzai_label), 40);
+    CHECK(offsetof(feddurzai_label, offset), 8);
+    CHECK(offsetof(feddurzai_label, len), 16);
+    CHECK(offsetof(feddurzai_label, line), 24);
+    CHECK(offsetof(feddurzai_label, has_address), 32);
+    CHECK(sizeof(feddurzai_routine_report), 56);
+    CHECK(offsetof(feddurzai_routine_report, slots), 8);
+    CHECK(offsetof(feddurzai_routine_report, labels), 16);
+    CHECK(offsetof(feddurzai_routine_report, line), 24);
+    CHECK(offsetof(feddurzai_routine_report, column), 32);
+    CHECK(offsetof(feddurzai_routine_report, at), 40);
+    CHECK(offsetof(feddurzai_routine_report, address), 48);
     CHECK(sizeof(feddurzai_detour_report), 64);
     CHECK(offsetof(feddurzai_detour_report, bytes), 8);
     CHECK(offsetof(feddurzai_detour_report, jump_back), 16);
@@ -759,6 +771,72 @@ static void check_register_names(void)
     CHECK(strcmp(text, "%gs"), 0);
     CHECK(feddurzai_segment_text(9, 0, text, 4), FEDDURZAI_BAD_SYNTAX);
     CHECK(feddurzai_segment_text(FEDDURZAI_ATT, FEDDURZAI_GS, text, 3), FEDDURZAI_NO_ROOM);
+}
+
+/* routines as text: bytes and labels, or a refusal with its line and column; and buffers that are too small */
+static void check_routines(void)
+{
+    static const struct { uint32_t bits; uint64_t base; const char *text, *names; int len; const char *bytes; uint64_t line, column; } cases[] = {
+        {64, 0x401000, "again: add eax, ecx\n dec ecx\n jne again\n ret", "", 7, "\x01\xc8\xff\xc9\x75\xfa\xc3", 0, 0},
+        {64, 0x401000, "mov edi, SIZE-1\n call puts\n ret", "puts = 0x401180\nSIZE = 24", 11, "\xbf\x17\0\0\0\xe8\x76\x01\0\0\xc3", 0, 0},
+        {32, 0, "jmp end\n db 1, 'a', \"bc\"\n end: ret", "", 7, "\xeb\x04\x01" "abc\xc3", 0, 0},
+        {16, 0x100, "MOV AX, 1234H", "", 3, "\xb8\x34\x12", 0, 0},
+        {64, 0x401000, "ret\n align 4\n t: dd t+4", "", 8, "\xc3\x0f\x1f\0\x08\x10\x40\0", 0, 0},
+        {64, 0, "", "", 0, "", 0, 0},
+        {64, 0, "ret\n  mvo eax, 1", "", FEDDURZAI_NO_TEXT, "", 2, 3},
+        {64, 0, "x: inc [rbx]", "", FEDDURZAI_NO_SIZE, "", 1, 4},
+        {64, 0, "db 256", "", FEDDURZAI_BAD_DATA, "", 1, 1},
+        {64, 0, "nop\n\njmp there", "", FEDDURZAI_UNKNOWN, "", 3, 1},
+        {64, 0, "x: nop\n x: nop", "", FEDDURZAI_TWICE, "", 2, 2},
+        {64, 0, "nop\nalign 3", "", FEDDURZAI_BAD_ALIGNMENT, "", 2, 1},
+        {64, 0x100000000, "x: mov eax, x", "", FEDDURZAI_UNFIT, "", 1, 4},
+        {64, 0, "nop", "a = 1\nrax = 2", FEDDURZAI_BAD_NAMES, "", 2, 0},
+        {64, UINT64_MAX, "nop\nnop", "", FEDDURZAI_WRAPS, "", 0, 0},
+        {17, 0, "nop", "1", FEDDURZAI_BAD_MODE, "", 0, 0},
+    };
+    static const char loop[] = "start: dec ecx\n  jne start\nend:";
+    size_t k;
+    feddurzai_routine_report *r = malloc(sizeof *r);
+    feddurzai_label *labels = malloc(2 * sizeof *labels);
+    uint8_t *code = malloc(4);
+    for (k = 0; k < sizeof cases / sizeof *cases; k++) {
+        size_t room = cases[k].len < 0 ? 3 : (size_t)cases[k].len;
+        uint8_t *out = malloc(room ? room : 1);
+        feddurzai_label *one = malloc(sizeof *one);
+        memset(out, 0xaa, room);
+        memset(r, 0xaa, sizeof *r);
+        CHECK(feddurzai_assemble_code(cases[k].bits, cases[k].base, cases[k].text, strlen(cases[k].text), cases[k].names, strlen(cases[k].names),
+            out, room, one, 1, r), cases[k].len < 0 ? cases[k].len : 0);
+        CHECK(cases[k].len < 0 ? is_untouched(out, room) : memcmp(out, cases[k].bytes, room) == 0, 1);
+        CHECK(r->bytes, cases[k].len < 0 ? 0 : (uint64_t)cases[k].len);
+        CHECK(r->line, cases[k].line);
+        CHECK(r->column, cases[k].column);
+        free(out);
+        free(one);
+    }
+    /* a label at the end; each buffer too small in turn */
+    memset(code, 0xaa, 4);
+    memset(labels, 0xaa, 2 * sizeof *labels);
+    CHECK(feddurzai_assemble_code(64, 0x1000, loop, sizeof loop - 1, NULL, 0, code, 3, labels, 2, r), FEDDURZAI_NO_ROOM);
+    CHECK(feddurzai_assemble_code(64, 0x1000, loop, sizeof loop - 1, NULL, 0, code, 4, labels, 1, r), FEDDURZAI_NO_ROOM);
+    CHECK(is_untouched(code, 4) && is_untouched(labels, 2 * sizeof *labels), 1);
+    CHECK(r->bytes << 16 | r->labels, 4 << 16 | 2);
+    CHECK(feddurzai_assemble_code(64, 0x1000, loop, sizeof loop - 1, NULL, 0, code, 4, labels, 2, r), 0);
+    CHECK(memcmp(code, "\xff\xc9\x75\xfc", 4), 0);
+    CHECK(labels[0].address, 0x1000);
+    CHECK(labels[0].offset << 16 | labels[0].len << 8 | labels[0].line, 5 << 8 | 1);
+    CHECK(labels[1].address, 0x1004);
+    CHECK(labels[1].offset, 27);
+    CHECK(labels[1].len << 8 | labels[1].line, 3 << 8 | 3);
+    CHECK(labels[0].has_address << 8 | labels[1].has_address, 0x101);
+    CHECK(memcmp(loop + labels[1].offset, "end", 3), 0);
+    /* a number as a target must be in reach of the base; if it is not in reach from the branch, it has a slot behind the code */
+    CHECK(feddurzai_assemble_code(64, 0x1000, "jmp far", 7, "far = 0x7fff00000000", 20, NULL, 0, NULL, 0, r), FEDDURZAI_NO_TEXT);
+    CHECK(feddurzai_assemble_code(64, 0x80000000, "nop\njmp far", 11, "far = 5", 7, NULL, 0, NULL, 0, r), FEDDURZAI_NO_ROOM);
+    CHECK(r->bytes << 8 | r->slots, 16 << 8 | 1);
+    free(r);
+    free(labels);
+    free(code);
 }
 
 /* each form at an address, as the manual spells it, and the reach of the first three */
@@ -1873,6 +1951,7 @@ int main(void)
     check_pieces();
     check_options();
     check_register_names();
+    check_routines();
     check_jumps();
     check_kept_targets();
     check_unlisted_moves();

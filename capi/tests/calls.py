@@ -334,6 +334,51 @@ def texts_are_read():
         refused(f.Reason.BAD_MODE, call, 17, 0, "nop")
 
 
+def routines_are_assembled():
+    made = f.assemble_code(64, 0x401000, "next: dec ecx\n jne next\n  call puts ; of the C library\n end:", {"puts": 0x401180})
+    check((made.code, made.labels), (code("ffc975fce877010000"), {"next": 0x401000, "end": 0x401009}))
+    check((made.report.bytes, made.report.slots, made.report.labels), (9, 0, 2))
+    check(made.lines, {1: 0x401000, 2: 0x401002, 3: 0x401004})
+    check(f.assemble_code(64, 0, "@@: db ';@', 1 ; @\n \n# @\n\tx:\n nop # it's").lines, {1: 0, 5: 3})
+    check(f.assemble_code(64, 0, "").code, b"")
+    check(f.assemble_code(64, 0, "x:").labels, {"x": 0})
+    check(f.assemble_code(32, 0, "dq MINUS\ndb 'a'", names={"MINUS": -1}).code, 8 * b"\xff" + b"a")
+    # what the text of one instruction gives is the same
+    for text in ("mov qword [rsp+0x10], rbx", "je 0x1010", "vpaddd xmm1, xmm2, xmm15"):
+        check(f.assemble_code(64, 0x1000, text).code, f.assemble(64, 0x1000, text))
+    # a branch that does not reach its label in 8 bits is near, and no longer than that
+    for count in (126, 127, 128):
+        made = f.assemble_code(64, 0, "jmp end\n" + count * "nop\n" + "end:")
+        check((len(made.code), made.labels["end"]), 2 * (count + (2 if count < 128 else 5),))
+    # a table of addresses, aligned by the manual's NOP of 3 bytes; the address of a label is where it stands
+    made = f.assemble_code(64, 0x401000, "ret\n align 4\n t: dd t+4, end\n end:")
+    check((made.code.hex(), made.labels["t"]), ("c30f1f00081040000c104000", 0x401004))
+    for reason, line, column, text in (
+        (f.Reason.NO_TEXT, 2, 3, "ret\n  mvo eax, 1"),
+        (f.Reason.NO_SIZE, 1, 4, "x: inc [rbx]"),
+        (f.Reason.BAD_DATA, 1, 1, "db 256"),
+        (f.Reason.UNKNOWN, 3, 1, "nop\n\njmp there"),
+        (f.Reason.TWICE, 2, 2, "x: nop\n x: nop"),
+        (f.Reason.BAD_ALIGNMENT, 2, 1, "nop\nalign 3"),
+        (f.Reason.UNFIT, 2, 4, "db 0, 0, 0, 0, 0, 0, 0, 0\nx: db x+248"),
+        (f.Reason.TOO_MANY, 65537, 1, 65537 * "nop\n"),
+    ):
+        refusal = refused(reason, f.assemble_code, 64, 0, text)
+        check((refusal.report.line, refusal.report.column), (line, column))
+        check(str(refusal).split("\n")[1:], [text.split("\n")[line - 1], (column - 1) * " " + "^"])
+        copy = pickle.loads(pickle.dumps(refusal))
+        check((type(copy), copy.report, str(copy)), (f.Refusal, refusal.report, str(refusal)))
+    # columns count bytes, and the mark stands under the letter
+    check(str(refused(f.Reason.NO_TEXT, f.assemble_code, 64, 0, "\tmvo eax, '\u00e9'")).split("\n")[1:], ["\tmvo eax, '\u00e9'", "\t^"])
+    check(str(refused(f.Reason.BAD_NAMES, f.assemble_code, 64, 0, "nop", {"a": 1, "rax": 2})).endswith(": rax = 0x2"), True)
+    check(str(refused(f.Reason.WRAPS, f.assemble_code, 64, (1 << 64) - 1, "nop\nnop")).endswith(": it ends at 0x1"), True)
+    refused(f.Reason.BAD_MODE, f.assemble_code, 17, 0, "nop")
+    for name in ("", "1a", "a b", "a = 1\nb", "a;", "\u00e9"):
+        raised(ValueError, f.assemble_code, 64, 0, "nop", {name: 1})
+    raised(ValueError, f.assemble_code, 64, 0, "nop", {"a": 1 << 64})
+    raised(TypeError, f.assemble_code, 64, 0, "nop", {1: 1})
+
+
 def jumps_have_forms():
     def jump(*arguments):
         return f.jump(*arguments).hex()
@@ -683,6 +728,7 @@ def values_are_looked_at_first():
         (f.code_of, ("mov", -1)),
         (f.assemble, (64, -1, "nop")),
         (f.read_intel, (64, -1, "nop")),
+        (f.assemble_code, (64, -1, "nop")),
         (f.jump, (64, -1, 0)),
         (f.jump, (64, 0, 1 << 64)),
         (f.jump, (64, 0, 0, -1)),
@@ -735,7 +781,7 @@ def values_are_looked_at_first():
         "name must be a str, not NoneType": [(f.code_of, (None,)), (f.codes_of, (None,)), (f.register, (None,))],
         "name must be a str, not bytes": [(f.code_of, (b"mov",))],
         "which must be an int, not NoneType": [(f.code_of, ("mov", None))],
-        "text must be a str, not bytes": [(f.assemble, (64, 0, b"nop")), (f.read_intel, (64, 0, b"nop"))],
+        "text must be a str, not bytes": [(f.assemble, (64, 0, b"nop")), (f.read_intel, (64, 0, b"nop")), (f.assemble_code, (64, 0, b"nop"))],
         "operand 0 must be a Register, Memory, Immediate, Near or Far, not int": [(f.Instr, (0, 5))],
         "base must be a Register or None, not str": [(f.Memory, ("rbx",))],
         "an instruction has no opcode: replace takes code, ops, lock, rep, segment and asize": [(lambda: nop.replace(opcode=5), ())],
@@ -812,6 +858,7 @@ for test in (
     items_are_those_of_decode,
     branches_have_equal_effects,
     texts_are_read,
+    routines_are_assembled,
     jumps_have_forms,
     moved_as_blocks,
     placed_in_a_region,

@@ -17,6 +17,8 @@ static feddurzai_shape shape;
 static feddurzai_about about;
 static feddurzai_touched touched;
 static feddurzai_moved map[4];
+static feddurzai_label labels[1];
+static feddurzai_routine_report routine;
 static uint8_t bytes[FEDDURZAI_MAX_LEN + 1], out[64], image[4096], patch[FEDDURZAI_MAX_PATCH], trampoline[64], kinds[4], access;
 static uint32_t starts[4], leaders[4];
 static char text[FEDDURZAI_MAX_TEXT];
@@ -169,6 +171,14 @@ static void printed_and_read(void)
     len = feddurzai_assemble(64, 0x1000, wanted, strlen(wanted), bytes, sizeof bytes);         // 2: 74 0e
     CHECK(len, 2);
     CHECK_BYTES(bytes, "\x74\x0e");
+    const char *loop = "again: add eax, ecx\n dec ecx\n jne again ; until it is 0\n ret";
+    said = feddurzai_assemble_code(64, 0x401000, loop, strlen(loop), NULL, 0, bytes, sizeof bytes, labels, 1, &routine);
+    // said is 0, routine.bytes is 7: 01 c8 ff c9 75 fa c3. labels[0].address is 0x401000, and its name has 5 bytes
+    CHECK(said, 0);
+    CHECK(routine.bytes, 7);
+    CHECK_BYTES(bytes, "\x01\xc8\xff\xc9\x75\xfa\xc3");
+    CHECK(labels[0].address, 0x401000);
+    CHECK(labels[0].len, 5);
     len = feddurzai_jump(64, 0x1000, 0x1010, FEDDURZAI_JUMP_NEAR, bytes, sizeof bytes);        // 5: e9 0b 00 00 00
     CHECK(len, 5);
     CHECK_BYTES(bytes, "\xe9\x0b\x00\x00\x00");

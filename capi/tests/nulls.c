@@ -41,6 +41,8 @@ static feddurzai_kept_report kept;
 static feddurzai_padded_report padded;
 static feddurzai_moved_start moved[2];
 static feddurzai_step_report step;
+static feddurzai_label label;
+static feddurzai_routine_report routine;
 static uint32_t starts[3], leaders[3];
 static uint8_t kinds[3], access;
 static const uint32_t firsts[2] = {0, 2};
@@ -68,6 +70,8 @@ static void fill(void)
     memset(&padded, 0xaa, sizeof padded);
     memset(moved, 0xaa, sizeof moved);
     memset(&step, 0xaa, sizeof step);
+    memset(&label, 0xaa, sizeof label);
+    memset(&routine, 0xaa, sizeof routine);
     memset(starts, 0xaa, sizeof starts);
     memset(kinds, 0xaa, sizeof kinds);
     memset(&access, 0xaa, sizeof access);
@@ -88,7 +92,7 @@ static int nothing_was_written(void)
         && is_untouched(&detour, sizeof detour) && is_untouched(&hook, sizeof hook) && is_untouched(moved, sizeof moved)
         && is_untouched(&kept, sizeof kept) && is_untouched(&padded, sizeof padded) && is_untouched(&step, sizeof step)
         && is_untouched(starts, sizeof starts) && is_untouched(leaders, sizeof leaders) && is_untouched(kinds, sizeof kinds)
-        && is_untouched(&access, sizeof access)
+        && is_untouched(&access, sizeof access) && is_untouched(&label, sizeof label) && is_untouched(&routine, sizeof routine)
         && is_untouched(&count, sizeof count) && is_untouched(out, sizeof out) && is_untouched(patch, sizeof patch)
         && is_untouched(text, sizeof text) && is_untouched(pieces, sizeof pieces);
 }
@@ -150,6 +154,13 @@ static void check_nulls(void)
     CHECK(feddurzai_read_intel(64, 0, NULL, 3, &unread), FEDDURZAI_NULL);
     CHECK(feddurzai_read_intel(64, 0, "nop", 3, NULL), FEDDURZAI_NULL);
     CHECK(feddurzai_read_intel(64, 0, NULL, 0, NULL), FEDDURZAI_NULL);
+
+    CHECK(feddurzai_assemble_code(64, 0, NULL, 3, "", 0, out, sizeof out, &label, 1, &routine), FEDDURZAI_NULL);
+    CHECK(feddurzai_assemble_code(64, 0, "nop", 3, NULL, 1, out, sizeof out, &label, 1, &routine), FEDDURZAI_NULL);
+    CHECK(feddurzai_assemble_code(64, 0, "nop", 3, "", 0, NULL, sizeof out, &label, 1, &routine), FEDDURZAI_NULL);
+    CHECK(feddurzai_assemble_code(64, 0, "nop", 3, "", 0, out, sizeof out, NULL, 1, &routine), FEDDURZAI_NULL);
+    CHECK(feddurzai_assemble_code(64, 0, "nop", 3, "", 0, out, sizeof out, &label, 1, NULL), FEDDURZAI_NULL);
+    CHECK(feddurzai_assemble_code(64, 0, NULL, 0, NULL, 0, NULL, 0, NULL, 0, NULL), FEDDURZAI_NULL);
 
     CHECK(feddurzai_jump(64, 0, 0, FEDDURZAI_JUMP_NEAR, NULL, sizeof out), FEDDURZAI_NULL);
     CHECK(feddurzai_register_text(0, FEDDURZAI_R64, 0, NULL, sizeof text), FEDDURZAI_NULL);
@@ -326,6 +337,10 @@ static void check_empty(void)
     CHECK(feddurzai_assemble(64, 0, NULL, 0, NULL, 0), FEDDURZAI_NO_TEXT);
     CHECK(feddurzai_assemble(64, 0, "nop", 3, NULL, 0), FEDDURZAI_NO_ROOM);
     CHECK(feddurzai_read_intel(64, 0, NULL, 0, &unread), FEDDURZAI_NO_TEXT);
+    CHECK(feddurzai_assemble_code(64, 0, NULL, 0, NULL, 0, NULL, 0, NULL, 0, &routine), 0);
+    CHECK(feddurzai_assemble_code(64, 0, "nop", 3, NULL, 0, NULL, 0, NULL, 0, &routine), FEDDURZAI_NO_ROOM);
+    CHECK(routine.bytes == 1 && routine.slots == 0 && routine.labels == 0 && routine.line == 0 && routine.address == 0, 1);
+    memset(&routine, 0xaa, sizeof routine);
     CHECK(feddurzai_jump(64, 0, 0, FEDDURZAI_JUMP_NEAR, NULL, 0), FEDDURZAI_NO_ROOM);
     CHECK(feddurzai_register_text(0, FEDDURZAI_R64, 0, NULL, 0), FEDDURZAI_NO_ROOM);
     CHECK(feddurzai_segment_text(0, FEDDURZAI_FS, NULL, 0), FEDDURZAI_NO_ROOM);
@@ -426,6 +441,8 @@ static void check_zeros(void)
     CHECK(feddurzai_pieces(64, 0, &zeros, text, sizeof text, pieces, 40), FEDDURZAI_BAD_FORM);
     CHECK(FEDDURZAI_CAUSE(feddurzai_encode(64, 0, &zeros, out, sizeof out)), FEDDURZAI_CAUSE_KIND);
     CHECK(nothing_was_written(), 1);
+    CHECK(feddurzai_assemble_code(0, 0, NULL, 0, NULL, 0, NULL, 0, NULL, 0, &routine), FEDDURZAI_BAD_MODE);
+    CHECK(routine.bytes == 0 && routine.labels == 0 && routine.line == 0 && routine.column == 0 && routine.at == 0, 1);
     CHECK(feddurzai_move(0, 0, NULL, 0, 0, NULL, 0, NULL, 0, &report), FEDDURZAI_BAD_MODE);
     CHECK(report.bytes == 0 && report.count == 0 && report.at == 0 && report.address == 0, 1);
     CHECK(report.code_bytes == 0 && report.slots_at == 0, 1);

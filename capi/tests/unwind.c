@@ -170,6 +170,9 @@ static void works(void)
     feddurzai_kept_report kept;
     feddurzai_padded_report padded;
     feddurzai_moved_start begins[16];
+    static const char lines[] = "next: add rax, size\n  jnz next\n  db 1, 'ab'\n";
+    feddurzai_label labels[2];
+    feddurzai_routine_report routine;
     feddurzai_byte_offsets parts;
     feddurzai_about about;
     feddurzai_touched touched;
@@ -216,6 +219,7 @@ static void works(void)
     }
     CALL(feddurzai_offsets, 64, P(code + 10), SIZE - 10, P(&parts));
     CALL(feddurzai_assemble, 64, 0x401000, P("add rax, rcx"), 12, P(out), sizeof out);
+    CALL(feddurzai_assemble_code, 64, 0x401000, P(lines), sizeof lines - 1, P("size = 8"), 8, P(out), sizeof out, P(labels), 2, P(&routine));
     CALL(feddurzai_jump, 64, 0x401000, 0x7fff00000000, FEDDURZAI_JUMP_FAR, P(out), sizeof out);
     CALL(feddurzai_register_text, FEDDURZAI_ATT, FEDDURZAI_R64, 12, P(text), sizeof text);
 }

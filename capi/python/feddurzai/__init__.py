@@ -10,8 +10,8 @@
 
 `decode` decodes one instruction, and `iterate` all instructions of some bytes. An `Instr` has an address, bytes, operands, a text and its pieces;
 `info` reports its flow and operand access, and `effects` everything that it touches. `Instr(code, operands..)` constructs one, and `encode`
-returns its bytes. `move` relocates code, `flow` follows control, `detour` makes both parts of a hook, and `StepSlots` makes slots for displaced
-single stepping. `Code` has the codes of common instructions.
+returns its bytes. `assemble_code` assembles a routine of lines with labels. `move` relocates code, `flow` follows control, `detour` makes both
+parts of a hook, and `StepSlots` makes slots for displaced single stepping. `Code` has the codes of common instructions.
 
 `measure` returns the length of an instruction that the opcode table leaves out, such as one of AVX-512.
 
@@ -84,8 +84,9 @@ from ._numbers import (
 from ._offsets import Offsets, Part, offsets
 from ._operands import Far, Immediate, Memory, Near, Operand, Register, register, registers
 from ._pieces import Piece
-from ._refusal import BlocksReport, DetourReport, InvalidCode, MoveReport, Refusal, StepReport, TooShort
+from ._refusal import BlocksReport, DetourReport, InvalidCode, MoveReport, Refusal, RoutineReport, StepReport, TooShort
 from ._region import Live, Region
+from ._routines import Routine, assemble_code
 from ._sight import Passage, View, look
 from ._steps import Step, StepCall, StepSlot, StepSlots, step, step_call, step_len
 from ._info import About, Use
@@ -149,6 +150,8 @@ __all__ = [
     "Repeat",
     "Rest",
     "Role",
+    "Routine",
+    "RoutineReport",
     "RowOperand",
     "Segment",
     "Shape",
@@ -169,6 +172,7 @@ __all__ = [
     "Use",
     "View",
     "assemble",
+    "assemble_code",
     "code_of",
     "codes_of",
     "decode",

@@ -449,6 +449,16 @@ class Reason(Named):
     CALLS = -30
     PADDING = -31
     BAD_OPTIONS = -32
+    BAD_NAMES = -33
+    TOO_MANY_LABELS = -34
+    NO_SIZE = -35
+    BAD_DATA = -36
+    UNKNOWN = -37
+    TWICE = -38
+    UNPLACED = -39
+    UNFIT = -40
+    BAD_ALIGNMENT = -41
+    UNSETTLED = -42
     NO_ENCODING = -256
 
 

@@ -40,6 +40,23 @@ _REASONS = {
     Reason.CALLS: "a moved call would hand an address in the trampoline to what it calls",
     Reason.PADDING: "the padding in front of the function cannot be used",
     Reason.BAD_OPTIONS: "a number of the options names no choice",
+    Reason.BAD_NAMES: "not a name with a number: it may be a word of operands, as a register is",
+    Reason.TOO_MANY_LABELS: "more than 65536 labels",
+    Reason.NO_SIZE: "addresses of several sizes fit: write byte, word, dword or another size",
+    Reason.BAD_DATA: "not a number that fits, and not a string",
+    Reason.UNKNOWN: "no line has a label of this name",
+    Reason.TWICE: "an earlier line has a label of the same name",
+    Reason.UNPLACED: "a label that is used follows 65536 instructions and bytes of data",
+    Reason.UNFIT: "the address of a label does not fit there",
+    Reason.BAD_ALIGNMENT: "an alignment is a power of two from 1 to 4096",
+    Reason.UNSETTLED: "the addresses of the labels do not settle",
+}
+# where a reason says less than all of an exact text or of moved code
+_REASONS_OF_ROUTINES = {
+    Reason.TOO_MANY: "more than 65536 instructions and bytes of data",
+    Reason.WRAPS: "the routine extends past the address space of the mode",
+    Reason.TOO_FAR: "an instruction cannot reach its target",
+    Reason.NO_TEXT: "no instruction has this text",
 }
 _SIGHT_ENDS = {
     Sight.NOT_READ: "no instruction of the table begins",
@@ -142,7 +159,31 @@ class StepReport:
     done_at: int
 
 
-Report = Union[MoveReport, DetourReport, BlocksReport, StepReport]
+@dataclass(frozen=True)
+class RoutineReport:
+    """The report of `assemble_code`: the sizes of the routine and of its slots, the number of its labels. After a refusal `line` and `column` are the place
+    in the text, both from 1 and columns in bytes, `source` is that line, and `mark` has a `^` under the column; for BAD_NAMES these are of the names. `at` is
+    the number of the instruction that does not reach `address`, or that is UNPLACED; each byte of data counts as one. Fields that do not apply are 0 or empty.
+
+    >>> try:
+    ...     assemble_code(64, 0, "db 1, 256")
+    ... except Refusal as refusal:
+    ...     print(refusal.report.line, refusal.report.column)
+    1 1
+    """
+
+    bytes: int
+    slots: int
+    labels: int
+    line: int
+    column: int
+    at: int
+    address: int
+    source: str = ""
+    mark: str = ""
+
+
+Report = Union[MoveReport, DetourReport, BlocksReport, StepReport, RoutineReport]
 
 
 class Refusal(Exception):
@@ -150,7 +191,7 @@ class Refusal(Exception):
 
     `reason` is a `Reason`. If an instruction has no encoding, it is `Reason.NO_ENCODING`, `cause` is a `Cause`, and `operand` the number of
     the operand that fails, from 0, or None if the cause concerns the whole instruction. Else both are None. A refusal by `move`,
-    `move_outside`, `move_blocks`, `step` or `detour` has a `report`, else None. `number` is the status of the library, below 0.
+    `move_outside`, `move_blocks`, `step`, `detour` or `assemble_code` has a `report`, else None. `number` is the status of the library, below 0.
 
     >>> try:
     ...     Instr(code_of("inc", "FE /0"), Immediate(1)).encode(64, 0)
@@ -171,12 +212,12 @@ class Refusal(Exception):
         self.cause = self.operand = None
         if number > -256:
             self.reason = Reason(number)
-            words = _REASONS[self.reason]
+            words = _words(self.reason, report)
         else:
             self.reason = Reason.NO_ENCODING
             self.cause = Cause(-number >> 8)
             words = _CAUSES[self.cause]
-            if self.cause in _OF_AN_OPERAND:
+            if self.cause in _OF_AN_OPERAND and not isinstance(report, RoutineReport):
                 self.operand = -number & 255
                 words = f"operand {self.operand}: {words}"
             words = f"no encoding: {words}"
@@ -211,10 +252,18 @@ class TooShort(Refusal):
 _CLASSES: Dict[int, Type[Refusal]] = {Reason.INVALID: InvalidCode, Reason.TOO_SHORT: TooShort}
 
 
+def _words(reason: Reason, report: Optional[Report]) -> str:
+    """What a reason means, by the call that gave the report."""
+    of_routine = _REASONS_OF_ROUTINES.get(reason) if isinstance(report, RoutineReport) else None
+    return of_routine or _REASONS[reason]
+
+
 def _where(reason: Reason, report: Optional[Report]) -> str:
     """Where the refusal occurred, by its report."""
     if report is None:
         return ""
+    if isinstance(report, RoutineReport):
+        return _where_of_routine(reason, report)
     if isinstance(report, BlocksReport):
         return _where_of_blocks(reason, report)
     if isinstance(report, StepReport):
@@ -260,6 +309,21 @@ def _where_of_step(reason: Reason, report: StepReport) -> str:
         return f": it ends at {report.address:#x}"
     if reason is Reason.TOO_FAR:
         return f": target {report.address:#x}"
+    return ""
+
+
+def _where_of_routine(reason: Reason, report: RoutineReport) -> str:
+    """Where the refusal occurred, by the report of `assemble_code`: the line with a mark under the column."""
+    if reason is Reason.BAD_NAMES:
+        return f": {report.source}"
+    if report.line:
+        return f": line {report.line}, column {report.column}\n{report.source}\n{report.mark}"
+    if reason is Reason.WRAPS:
+        return f": it ends at {report.address:#x}"
+    if reason is Reason.TOO_FAR:
+        return f": instruction {report.at}, target {report.address:#x}"
+    if reason is Reason.UNPLACED:
+        return f": in instruction {report.at}"
     return ""
 
 

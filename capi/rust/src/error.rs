@@ -126,6 +126,29 @@ pub enum Error {
         /// The first operand that fails it, or `None` if it concerns the whole instruction.
         operand: Option<u32>,
     },
+    /// A line of the names is no name with a number. The name may be a word of operands, as a register is.
+    BadNames,
+    /// A text has more than 65536 labels.
+    TooManyLabels,
+    /// Addresses of several sizes fit a text, and no operand tells which.
+    NoSize,
+    /// Data has what is no number that fits, and no string.
+    BadData,
+    /// No line has a label of this name.
+    UnknownName,
+    /// An earlier line has a label of the same name.
+    PlacedTwice,
+    /// A label that is used follows 65536 instructions and bytes of data.
+    Unplaced {
+        /// The number of the instruction that uses it, from 0.
+        instruction: u64,
+    },
+    /// The address of a label does not fit where it stands.
+    Unfit,
+    /// An alignment is no power of two from 1 to 4096.
+    BadAlignment,
+    /// The addresses of the labels did not settle in 16 rounds.
+    Unsettled,
     /// The instructions of a block are not decoded ones that lie one after another.
     Scattered {
         /// The number of the first instruction that does not begin where the one before it ends.
@@ -269,6 +292,16 @@ impl Error {
             -29 => Error::Overlaps,
             -30 => Error::Calls { at: place.at },
             -31 => Error::Padding { at: place.at, need: place.address },
+            -33 => Error::BadNames,
+            -34 => Error::TooManyLabels,
+            -35 => Error::NoSize,
+            -36 => Error::BadData,
+            -37 => Error::UnknownName,
+            -38 => Error::PlacedTwice,
+            -39 => Error::Unplaced { instruction: place.at },
+            -40 => Error::Unfit,
+            -41 => Error::BadAlignment,
+            -42 => Error::Unsettled,
             _ => Error::of_encoding(status),
         }
     }
@@ -362,6 +395,20 @@ impl fmt::Display for Error {
             Error::Padding { at, need } => {
                 write!(f, "the padding in front of the function has {} bytes, the jump {}", at, need)
             }
+            Error::BadNames => f.write_str("not a name with a number: it may be a word of operands, as a register is"),
+            Error::TooManyLabels => f.write_str("more than 65536 labels"),
+            Error::NoSize => f.write_str("addresses of several sizes fit: write byte, word, dword or another size"),
+            Error::BadData => f.write_str("not a number that fits, and not a string"),
+            Error::UnknownName => f.write_str("no line has a label of this name"),
+            Error::PlacedTwice => f.write_str("an earlier line has a label of the same name"),
+            Error::Unfit => f.write_str("the address of a label does not fit there"),
+            Error::BadAlignment => f.write_str("an alignment is a power of two from 1 to 4096"),
+            Error::Unsettled => f.write_str("the addresses of the labels do not settle"),
+            Error::Unplaced { instruction } => write!(
+                f,
+                "a label that is used follows 65536 instructions and bytes of data: in instruction {}",
+                instruction
+            ),
             Error::NoEncoding { cause, operand: Some(operand) } => {
                 write!(f, "no encoding: operand {}: {}", operand, cause)
             }

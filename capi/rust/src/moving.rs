@@ -7,7 +7,7 @@ use alloc::vec;
 use alloc::vec::Vec;
 
 /// The status of a buffer that is too small: the report then has the sizes.
-const NO_ROOM: i32 = -6;
+pub(crate) const NO_ROOM: i32 = -6;
 
 /// The form of a moved instruction. `docs/moving.md` of the sources lists the bytes of each.
 ///
@@ -443,7 +443,8 @@ impl BlockEncoder {
         options: BlockEncoderOptions,
     ) -> Result<BlockEncoderResult, Error> {
         let (old_ip, code) = block.code(bitness)?;
-        let moved = moved_by(options.keeps_targets, bitness, old_ip, &code, block.rip)?;
+        let mover = if options.keeps_targets { Mover::Outside } else { Mover::Following };
+        let moved = moved_by(mover, bitness, old_ip, &code, block.rip)?;
         Ok(BlockEncoderResult::of(block.rip, moved))
     }
 

@@ -1,8 +1,8 @@
 //! Constructed instructions and the encoder: bytes as the Intel SDM gives them and GNU as 2.40 writes them.
 
 use feddurzai::{
-    assemble, jump, read_intel, Cause, Code, Encoder, Error, Instruction, Jump, MemoryOperand, Mnemonic, OpKind,
-    Operand, Register,
+    assemble, assemble_code, jump, read_intel, Cause, Code, Encoder, Error, Instruction, Jump, MemoryOperand, Mnemonic,
+    OpKind, Operand, Register,
 };
 
 fn bytes_of(made: Result<Instruction, Error>) -> Vec<u8> {
@@ -217,6 +217,33 @@ fn texts_are_assembled() {
     assert_eq!((je.ip(), je.bytes(), je.mnemonic()), (0x1000, &b"\x74\x0E"[..], Mnemonic::Je));
     assert_eq!((je.len(), je.next_ip(), je.op0_kind()), (2, 0x1002, OpKind::NearBranch));
     assert_eq!(read_intel(64, 0, "nope"), Err(Error::NoText));
+}
+
+#[test]
+fn routines_are_assembled() {
+    let text = "next: dec ecx\n jne next\n  call puts\n end:";
+    let made = assemble_code(64, 0x40_1000, text, &[("puts", 0x40_1180)]).unwrap();
+    assert_eq!(made.code(), b"\xFF\xC9\x75\xFC\xE8\x77\x01\0\0");
+    let labels: Vec<_> = made.labels().iter().map(|label| (label.name(), label.line(), label.address())).collect();
+    assert_eq!(labels, [("next", 1, Some(0x40_1000)), ("end", 4, Some(0x40_1009))]);
+    assert_eq!((made.slots(), made.address("next"), made.address("puts")), (0, Some(0x40_1000), None));
+    for (text, line, column, error) in [
+        ("ret\n  mvo eax, 1", 2, 3, Error::NoText),
+        ("x: inc [rbx]", 1, 4, Error::NoSize),
+        ("db 256", 1, 1, Error::BadData),
+        ("jmp there", 1, 1, Error::UnknownName),
+        ("x: nop\n x: nop", 2, 2, Error::PlacedTwice),
+    ] {
+        let refused = assemble_code(64, 0, text, &[]).unwrap_err();
+        assert_eq!((refused.line, refused.column, refused.error), (Some(line), Some(column), error), "{}", text);
+    }
+    for name in ["rax", "", "a b", "a = 1\nb"] {
+        let refused = assemble_code(64, 0, "nop", &[("a", 1), (name, 2)]).unwrap_err();
+        assert_eq!((refused.line, refused.column, refused.error), (Some(2), None, Error::BadNames), "{}", name);
+    }
+    let wraps = assemble_code(64, u64::MAX, "nop\nnop", &[]).unwrap_err();
+    assert_eq!((wraps.line, wraps.error), (None, Error::Wraps { end: 1 }));
+    assert_eq!(assemble_code(7, 0, "nop", &[]).unwrap_err().error, Error::BadMode);
 }
 
 /// E9 and E8 with their distance from the end (SDM volume 2, JMP and CALL).

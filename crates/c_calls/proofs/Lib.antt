@@ -29,3 +29,4 @@ pub mod ShortPatches
 pub mod MovedPairs
 pub mod KeptPairs
 pub mod RegionUnits
+pub mod RoutineLabels

@@ -31,6 +31,7 @@ pub mod UnlistedSteps
 pub mod UnlistedDetours
 pub mod UnlistedMoves
 pub mod Failing
+pub mod Routines
 pub mod Regions
 pub mod RegionSearch
 pub mod Sizes

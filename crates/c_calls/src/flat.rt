@@ -440,3 +440,39 @@ pub struct FlatOptions {
     /// The number of spaces in front of a comment, 0 for 2.
     pub comment_gap: u8,
 }
+
+/// A label of a routine as text.
+#[derive(Clone, Copy)]
+#[repr(C)]
+pub struct FlatLabel {
+    /// Its address; 0 if it has none.
+    pub address: u64,
+    /// The offset of the first byte of its name in the text.
+    pub offset: u64,
+    /// How many bytes its name has.
+    pub len: u64,
+    /// The number of its line, from 1.
+    pub line: u64,
+    /// 1 if it has an address, 0 behind the last of 65,536 instructions and bytes of data.
+    pub has_address: u8,
+}
+
+/// The report of a routine as text. After a refusal only the numbers that it is about are not 0.
+#[derive(Clone, Copy)]
+#[repr(C)]
+pub struct FlatRoutine {
+    /// How many bytes the routine has, with its slots.
+    pub bytes: u64,
+    /// How many slots of 8 bytes stand at its end.
+    pub slots: u64,
+    /// How many labels it has.
+    pub labels: u64,
+    /// The refused line of the text or of the names, from 1.
+    pub line: u64,
+    /// The column of what is refused in a line of the text, from 1, in bytes.
+    pub column: u64,
+    /// The number of the instruction or byte of data that does not reach its target, from 0.
+    pub at: u64,
+    /// The target that is not reached, or the end that passes the address space.
+    pub address: u64,
+}

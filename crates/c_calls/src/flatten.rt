@@ -77,6 +77,18 @@ fn flat_memory(m: &Mem) -> FlatOperand
     }
 }
 
+/// Writes a register to its place in a struct.
+#[inline(always)]
+#[tactic(auto, unfolding(crate::specs::Flat::flat_operand))]
+fn register_into(register: Register, out: &mut FlatOperand)
+    ensures { out.new ≡ spec.flat_operand (Operand.Reg register) }
+{
+    *out = ABSENT;
+    out.kind = 1;
+    out.reg_class = class_number(register);
+    out.reg_number = register.number();
+}
+
 /// Writes an operand to its place in a struct.
 // Each arm writes `out`: an operand that all arms hand on is put together from its parts again.
 #[inline(never)]
@@ -86,41 +98,28 @@ fn present_into(operand: &Operand, out: &mut FlatOperand)
 {
     match operand {
         Operand::Absent => *out = ABSENT,
-        Operand::Reg(register) => {
-            *out = FlatOperand {
-                kind: 1,
-                reg_class: class_number(*register),
-                reg_number: register.number(),
-                ..ABSENT
-            }
-        }
+        Operand::Reg(register) => register_into(*register, out),
         Operand::Mem(m) => *out = flat_memory(m),
         Operand::Imm(value) => {
-            *out = FlatOperand {
-                value: *value,
-                kind: 3,
-                ..ABSENT
-            }
+            *out = ABSENT;
+            out.kind = 3;
+            out.value = *value;
         }
         Operand::Near(value) => {
-            *out = FlatOperand {
-                value: *value,
-                kind: 4,
-                ..ABSENT
-            }
+            *out = ABSENT;
+            out.kind = 4;
+            out.value = *value;
         }
         Operand::Far { selector, offset } => {
-            *out = FlatOperand {
-                offset: *offset,
-                selector: *selector,
-                kind: 5,
-                ..ABSENT
-            }
+            *out = ABSENT;
+            out.kind = 5;
+            out.selector = *selector;
+            out.offset = *offset;
         }
     }
 }
 
-/// Writes an operand, if there is one, to its place in a struct.
+/// Writes an operand, if there is one, to its place in a struct. Most are absent or registers.
 #[inline(always)]
 #[tactic(auto, unfolding(crate::specs::Flat::flat_operand))]
 fn operand_into(operand: &Operand, out: &mut FlatOperand)
@@ -128,7 +127,27 @@ fn operand_into(operand: &Operand, out: &mut FlatOperand)
 {
     match operand {
         Operand::Absent => *out = ABSENT,
+        Operand::Reg(register) => register_into(*register, out),
         _ => present_into(operand, out),
+    }
+}
+
+/// Writes two operands to their places in a struct. The last two of most instructions are absent.
+#[inline(always)]
+#[tactic(auto, unfolding(crate::specs::Flat::flat_operand))]
+fn last_into(a: &Operand, b: &Operand, place: &mut FlatOperand, next: &mut FlatOperand)
+    ensures first { place.new ≡ spec.flat_operand a.now }
+    ensures second { next.new ≡ spec.flat_operand b.now }
+{
+    match (a, b) {
+        (Operand::Absent, Operand::Absent) => {
+            *place = ABSENT;
+            *next = ABSENT;
+        }
+        _ => {
+            present_into(a, place);
+            present_into(b, next);
+        }
     }
 }
 
@@ -141,8 +160,7 @@ pub(crate) fn flat_into(d: &Decoded, out: &mut FlatInstr)
 {
     operand_into(&d.instr.ops[0], &mut out.op0);
     operand_into(&d.instr.ops[1], &mut out.op1);
-    operand_into(&d.instr.ops[2], &mut out.op2);
-    operand_into(&d.instr.ops[3], &mut out.op3);
+    last_into(&d.instr.ops[2], &d.instr.ops[3], &mut out.op2, &mut out.op3);
     out.code = d.instr.code.0;
     out.len = d.len;
     out.lock = lock_number(d.instr.lock);

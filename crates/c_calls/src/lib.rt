@@ -38,6 +38,7 @@ pub mod pieces;
 mod refusal;
 pub mod region;
 mod region_search;
+pub mod routines;
 pub mod row_operands;
 pub mod rows;
 pub mod ruled;

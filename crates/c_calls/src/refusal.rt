@@ -70,6 +70,26 @@ pub(crate) enum Refusal {
     Padding,
     /// A number of the options names no choice.
     Options,
+    /// A line of the names is no name with a number.
+    NameLine,
+    /// A text has more labels than are taken together.
+    Labels,
+    /// A text is that of several instructions, of which each has another size of its address.
+    Size,
+    /// Data has what is no number that fits, and no string.
+    Data,
+    /// A text has no label of a name.
+    Unknown,
+    /// Two lines have a label of the same name.
+    Twice,
+    /// A label follows the last of as many instructions and bytes of data as are taken together.
+    Unplaced,
+    /// The address of a label does not fit where it stands.
+    Unfit,
+    /// An alignment is no power of two from 1 to 4096.
+    Alignment,
+    /// The labels of a text have other addresses than those with which its lines are read, however often it is read.
+    Unsettled,
     /// The instruction has no plain spelling there: the condition that fails, and the operand that fails it, 0 for a condition of the whole instruction.
     Spelling { why: NoSpelling, operand: u8 },
 }
@@ -129,6 +149,16 @@ fn refusal_number(why: Refusal) -> u16
         Refusal::Calls => 30,
         Refusal::Padding => 31,
         Refusal::Options => 32,
+        Refusal::NameLine => 33,
+        Refusal::Labels => 34,
+        Refusal::Size => 35,
+        Refusal::Data => 36,
+        Refusal::Unknown => 37,
+        Refusal::Twice => 38,
+        Refusal::Unplaced => 39,
+        Refusal::Unfit => 40,
+        Refusal::Alignment => 41,
+        Refusal::Unsettled => 42,
         Refusal::Spelling { why, operand } => condition_number(why) + u16::from(operand),
     }
 }

@@ -10,7 +10,7 @@ use crate::numbers::{
     register_numbered, rep_numbered,
 };
 use decoder::UNREAD;
-use x86_values::{Code, Instr, Mem, Operand};
+use x86_values::{Code, Instr, Mem, Operand, Rep};
 
 /// Writes the register operand of a struct to `out`. If there is none, `out` may hold anything.
 #[inline(always)]
@@ -100,6 +100,14 @@ pub(crate) fn instr_back_into(f: &FlatInstr, out: &mut Instr) -> Option<()>
     operand_back_into(&f.op2, &mut out.ops[2])?;
     operand_back_into(&f.op3, &mut out.ops[3])?;
     out.code = Code(f.code);
+    // most instructions have no prefix of these and no address size
+    if f.lock == 0 && f.rep == 0 && f.segment == 0 && f.asize == 0 {
+        out.lock = false;
+        out.rep = Rep::None;
+        out.seg = None;
+        out.asize = None;
+        return Some(());
+    }
     out.lock = lock_numbered(f.lock)?;
     out.rep = rep_numbered(f.rep)?;
     out.seg = prefix_numbered(f.segment)?;

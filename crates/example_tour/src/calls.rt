@@ -1,7 +1,9 @@
 //! The calls that users meet first, each with its result. The docstrings of the library show these lines as their examples.
 
 use bitflags::Flags;
-use feddurzai::assembling::{Assembler, assemble, assemble_code, assemble_code_with, read_intel};
+use feddurzai::assembling::{
+    Assembler, assemble, assemble_code, assemble_code_with, label_lines, read_intel,
+};
 use feddurzai::decoding::{Decoder, Items, decode_in, read_items};
 use feddurzai::encoding::{encode, encoded_len};
 use feddurzai::flow::graph_of_code;
@@ -133,6 +135,25 @@ fn assemble_named(rt: &HostRuntime) -> anyhow::Result<()> {
     let text = b"mov edi, SIZE-1\n call puts\n ret";
     let made = assemble_code_with(rt.alloc(), Bits::B64, 0x40_1000, names, text)?;
     println!(rt; "{}", hex::encode(rt.alloc(), made.bytes())?)?; // bf17000000e876010000c3
+    Ok(())
+}
+
+/// Prints the line and the address of each label of a routine.
+fn find_labels(rt: &HostRuntime) -> anyhow::Result<()> {
+    let text = b"again: dec ecx\n jne again\n done: ret";
+    let made = assemble_code(rt.alloc(), Bits::B64, 0x40_1000, text)?;
+    let labels = label_lines(rt.alloc(), text)?;
+    for (number, label) in labels.iter().enumerate() {
+        println!(rt; "{} {:?}", label.line, made.address_at(number))?; // 1 Some(4198400), then 3 Some(4198404)
+    }
+    Ok(())
+}
+
+/// Assembles a jump through a table of addresses.
+fn assemble_jumps(rt: &HostRuntime) -> anyhow::Result<()> {
+    let text = b"jmp [table+rax*8]\none: ret\ntwo: nop\n ret\n align 8\ntable: dq one, two";
+    let made = assemble_code(rt.alloc(), Bits::B64, 0x40_1000, text)?;
+    println!(rt; "{}", hex::encode(rt.alloc(), made.bytes())?)?; // ff24c510104000c390c3660f1f44000007104000000000000810400000000000
     Ok(())
 }
 
@@ -443,6 +464,8 @@ fn run_reading(rt: &HostRuntime) -> anyhow::Result<()> {
     assemble_lines(rt)?;
     assemble_table(rt)?;
     assemble_named(rt)?;
+    find_labels(rt)?;
+    assemble_jumps(rt)?;
     print_one(rt)?;
     show_pieces(rt)?;
     print_and_count(rt)?;

@@ -15,6 +15,7 @@ mod information;
 mod moving;
 mod reading;
 mod region;
+mod routines;
 mod rows;
 mod stepping;
 mod texts;

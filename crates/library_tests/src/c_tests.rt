@@ -5,5 +5,6 @@ mod empty;
 mod moving_tests;
 mod reading_tests;
 mod region_tests;
+mod routine_tests;
 mod row_tests;
 mod step_tests;

@@ -115,6 +115,19 @@ extern "C" {
 
 #[cfg(feature = "alloc")]
 extern "C" {
+    fn feddurzai_assemble_code(
+        bits: u32,
+        base: u64,
+        text: *const u8,
+        len: usize,
+        names: *const u8,
+        names_len: usize,
+        code: *mut u8,
+        room: usize,
+        labels: *mut Label,
+        label_room: usize,
+        report: *mut RoutineReport,
+    ) -> i32;
     fn feddurzai_move(
         bits: u32,
         old_ip: u64,
@@ -736,6 +749,35 @@ impl Library {
                 code.len(),
                 map.as_mut_ptr(),
                 map.len(),
+                report,
+            )
+        }
+    }
+
+    pub fn assemble_code(
+        self,
+        bits: u32,
+        base: u64,
+        text: &str,
+        names: &str,
+        code: &mut [u8],
+        labels: &mut [Label],
+        report: &mut RoutineReport,
+    ) -> i32 {
+        // SAFETY: each slice has as many elements as its length says, `report` is a struct of the header, and no argument
+        // that is written overlaps another.
+        unsafe {
+            feddurzai_assemble_code(
+                bits,
+                base,
+                text.as_ptr(),
+                text.len(),
+                names.as_ptr(),
+                names.len(),
+                code.as_mut_ptr(),
+                code.len(),
+                labels.as_mut_ptr(),
+                labels.len(),
                 report,
             )
         }

@@ -226,4 +226,22 @@ structs! {
         jump: u64,
         padding: u64,
     }
+    /// A label of a routine.
+    Label = "feddurzai_label" {
+        address: u64,
+        offset: u64,
+        len: u64,
+        line: u64,
+        has_address: u8,
+    }
+    /// The report of a routine.
+    RoutineReport = "feddurzai_routine_report" {
+        bytes: u64,
+        slots: u64,
+        labels: u64,
+        line: u64,
+        column: u64,
+        at: u64,
+        address: u64,
+    }
 }

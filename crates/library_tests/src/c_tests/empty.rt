@@ -1,9 +1,9 @@
 //! Structs of which nothing is written yet.
 
 use c_calls::flat::{
-    FlatBlocks, FlatDetour, FlatHook, FlatInfo, FlatInstr, FlatMemoryUse, FlatMove, FlatMoved,
-    FlatMovedStart, FlatOffsets, FlatOperand, FlatPart, FlatPlace, FlatShape, FlatStep,
-    FlatTouched, FlatUse, FlatView,
+    FlatBlocks, FlatDetour, FlatHook, FlatInfo, FlatInstr, FlatLabel, FlatMemoryUse, FlatMove,
+    FlatMoved, FlatMovedStart, FlatOffsets, FlatOperand, FlatPart, FlatPlace, FlatRoutine,
+    FlatShape, FlatStep, FlatTouched, FlatUse, FlatView,
 };
 
 const NO_OPERAND: FlatOperand = FlatOperand {
@@ -173,4 +173,23 @@ pub(crate) const NO_STEP: FlatStep = FlatStep {
     address: 9,
     len: 9,
     done_at: 9,
+};
+
+/// Numbers that are none, so that a call that leaves them is seen.
+pub(crate) const NO_LABEL: FlatLabel = FlatLabel {
+    address: 9,
+    offset: 9,
+    len: 9,
+    line: 9,
+    has_address: 9,
+};
+
+pub(crate) const NO_ROUTINE: FlatRoutine = FlatRoutine {
+    bytes: 9,
+    slots: 9,
+    labels: 9,
+    line: 9,
+    column: 9,
+    at: 9,
+    address: 9,
 };
