@@ -11,6 +11,7 @@ ghost use Rattle.sweep.specs.SweepText.Listing as spec;
 use crate::sweep_text::texts::{append_instr_text, append_single_byte};
 use arrayvec::ArrayVec;
 use decoder::DecodeError;
+use text_parts::digit_pairs::digit_pair;
 use text_parts::style::Style;
 use text_parts::text::{TEXT_LEN, append, append_few};
 use x86_values::{Bits, Decoded, wrap};
@@ -43,6 +44,33 @@ pub(crate) fn append_bytes<const N: usize>(out: &mut ArrayVec<u8, N>, bytes: &[u
     }
 }
 
+/// Writes the hexadecimal digits of the bytes of a number, from the highest down, to places, two for each byte.
+#[inline(always)]
+fn digits_into(bytes: &[u8], places: &mut [u8])
+    requires { length places.old ≡ 2 * length bytes.now }
+    ensures { places.new ≡ encode_lower bytes.now }
+{
+    for n in 0..bytes.len() {
+        let [high, low] = digit_pair(bytes[n]);
+        places[2 * n] = high;
+        places[2 * n + 1] = low;
+    }
+}
+
+/// Appends the hexadecimal digits of a number, of whose bytes the highest comes first. Texts write their numbers by the same digits.
+#[inline]
+fn append_number<const N: usize>(out: &mut ArrayVec<u8, N>, bytes: &[u8])
+    requires few { length bytes.now ≤ 15 }
+    requires room { array_vec_len out.old + 2 * length bytes.now ≤ N }
+    ensures items { out.new.items ≡ out.old.items ++ encode_lower bytes.now }
+    ensures len { array_vec_len out.new ≡ array_vec_len out.old + 2 * length bytes.now }
+{
+    let mut places = [b' '; 30];
+    let digits = &mut places[..2 * bytes.len()];
+    digits_into(bytes, digits);
+    append(out, digits);
+}
+
 /// Appends the address of an offset in code whose first byte has the address `base`: 4, 8 or 16 hexadecimal digits, by the mode. The address wraps in
 /// the mode.
 #[inline(always)]
@@ -54,9 +82,9 @@ pub fn append_address(out: &mut Chunk, bits: Bits, base: u64, offset: usize)
 {
     let address = wrap(bits, u128::from(base) + offset as u128);
     match bits {
-        Bits::B16 => append_bytes(out, &(address as u16).to_be_bytes()),
-        Bits::B32 => append_bytes(out, &(address as u32).to_be_bytes()),
-        Bits::B64 => append_bytes(out, &address.to_be_bytes()),
+        Bits::B16 => append_number(out, &(address as u16).to_be_bytes()),
+        Bits::B32 => append_number(out, &(address as u32).to_be_bytes()),
+        Bits::B64 => append_number(out, &address.to_be_bytes()),
     }
 }
 
