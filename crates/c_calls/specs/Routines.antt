@@ -13,7 +13,7 @@ use Rattle.assembly_text.specs.declared.text_error.LineError.TheVariants as line
 use Rattle.assembly_text.specs.declared.text_error.AssembleError.{AssembleError}
 use Rattle.assembly_text.specs.declared.text_error.AssembleError.TheVariants as text_error
 use Rattle.assembly_text.specs.TextLabels.{label_lines}
-use Rattle.assembly_text.specs.Text.{IsNamedAnswer}
+use Rattle.assembly_text.specs.Rounds.{IsNamedAnswer}
 use Rattle.c_calls.specs.declared.refusal.Refusal.{Refusal}
 use Rattle.c_calls.specs.declared.refusal.Refusal.TheVariants as why
 use Rattle.c_calls.specs.declared.flat.FlatLabel.{FlatLabel}
