@@ -5,6 +5,7 @@ ghost use Rattle.branch_sizes.specs.Tables.{plan_in};
 ghost use Rattle.branch_sizes.specs.Layout.{IsLayout};
 
 use crate::limits::Limits;
+use crate::order::may_grow;
 use crate::plan::{Branch, Goal, Reach};
 use crate::tables::Tables;
 use std::alloc::{AllocError, Global};
@@ -26,12 +27,58 @@ fn may_break(item: &Branch, f: usize, i: usize, k: usize) -> bool
     }
 }
 
+/// Whether an item is a branch to another item, and may grow.
+fn may_part(item: &Branch) -> bool {
+    may_grow(item) && matches!(item.goal, Goal::Inside(_))
+}
+
+/// The branches to other items that may grow.
+#[derive(Drop)]
+struct Inner {
+    /// Their numbers, in order.
+    numbers: Vec<u32>,
+    /// How many of them precede each item.
+    before: Vec<u32>,
+}
+
+/// The branches to other items that may grow.
+fn inner_branches(alloc: Global, tables: &Tables) -> Result<Inner, AllocError> {
+    let mut numbers = Vec::new(alloc);
+    let mut before = Vec::with_capacity(alloc, tables.items.len())?;
+    'items: for k in 0..tables.items.len() {
+        before.push(numbers.len() as u32)?;
+        if may_part(&tables.items[k]) {
+            numbers.push(k as u32)?;
+        }
+    }
+    Ok(Inner { numbers, before })
+}
+
+impl Inner {
+    /// How many of them precede an item.
+    fn count_before(&self, item: usize) -> usize {
+        match self.before.get(item) {
+            Some(count) => *count as usize,
+            None => self.numbers.len(),
+        }
+    }
+
+    /// The one before which there are so many.
+    fn nth(&self, count: usize) -> Option<usize> {
+        match self.numbers.get(count) {
+            Some(number) => Some(*number as usize),
+            None => None,
+        }
+    }
+}
+
 /// The branches to be tested: those in a queue, and those whose limits are passed.
 #[derive(Drop)]
 pub(crate) struct Suspects {
     queue: Vec<u32>,
     /// Whether each item is in the queue.
     queued: Vec<bool>,
+    inner: Inner,
     limits: Limits,
 }
 
@@ -47,9 +94,11 @@ impl Suspects {
         let limits = Limits::make(alloc, tables, layout)?;
         let queue = Vec::with_capacity(alloc, tables.items.len())?;
         let queued = vec![in alloc; false; tables.items.len()]?;
+        let inner = inner_branches(alloc, tables)?;
         Ok(Suspects {
             queue,
             queued,
+            inner,
             limits,
         })
     }
@@ -98,11 +147,13 @@ impl Suspects {
     {
         self.limits.grow(tables, layout, i, by);
         self.push(i)?;
-        let low = i.saturating_sub(WINDOW);
-        let high = tables.items.len().min(i + WINDOW + 1);
-        'near: for k in low..high {
-            let item = &tables.items[k];
-            if may_break(item, usize::from(layout[k]), i, k) {
+        let first = self.inner.count_before(i.saturating_sub(WINDOW));
+        'near: for n in first..first.saturating_add(2 * WINDOW + 1) {
+            let Some(k) = self.inner.nth(n) else { break };
+            if k > i + WINDOW || k >= tables.items.len() {
+                break;
+            }
+            if may_break(&tables.items[k], usize::from(layout[k]), i, k) {
                 self.push(k)?;
             }
         }
