@@ -13,4 +13,6 @@ pub mod AllowedWords
 pub mod Choosing
 pub mod TakenRows
 pub mod LeastLengths
+pub mod SizedWords
 pub mod Apart
+pub mod RowNames

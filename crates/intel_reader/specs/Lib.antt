@@ -5,3 +5,5 @@ pub mod Candidate
 pub mod Choice
 pub mod Lengths
 pub mod Possible
+pub mod Mnemonics
+pub mod SizeWords

@@ -22,6 +22,7 @@ use crate::candidate::candidate_into;
 use crate::lengths::least_len;
 use crate::operands::takes_at;
 use crate::possible::{asked_by, displacement_allowed, has_address, has_size, size_allowed};
+use crate::size_words::are_sized;
 use arrayvec::ArrayVec;
 use decoder::UNREAD;
 use encoder::encode;
@@ -29,6 +30,7 @@ use instruction_parts::row_types::Row;
 use intel_text::print;
 use intel_words::reading::{NO_WORDS, read_words_into};
 use intel_words::words::IntelWords;
+use opcode_rows::laws::rows_are_sound;
 use opcode_rows::{ROWS, name, row_of};
 use std::cmp::Ordering;
 use x86_values::{Bits, Code, DispSize, Instr};
@@ -217,7 +219,11 @@ fn with_code(
     ensures progress { IsProgress bits ip text.now best.old best.new }
     ensures covers { (b : Assembly) → IsCandidate bits ip text.now b → b.instr.code.0 ≡ code.0 → LeadsChoice best.new b }
 {
+    rows_are_sound();
     let row = row_of(code);
+    if !are_sized(&row, words) {
+        return;
+    }
     with_row(best, bits, ip, text, &row, code, words);
 }
 
@@ -316,7 +322,7 @@ fn with_name(
 
 /// Whether a name in a text is that of the jump on the counter, with one of its address sizes.
 #[tactic(auto, unfolding(crate::specs::Possible::is_counter_word, text_parts::specs::PrefixWords::counter_jump))]
-fn is_counter_word(word: &[u8]) -> bool
+pub(crate) fn is_counter_word(word: &[u8]) -> bool
     ensures { result ≡ is_counter_word word.now }
 {
     word == b"jcxz".as_slice() || word == b"jecxz".as_slice() || word == b"jrcxz".as_slice()

@@ -16,8 +16,10 @@ mod generated_buckets;
 mod generated_operands;
 pub mod laws;
 mod lengths;
+pub mod mnemonics;
 mod operands;
 mod possible;
+mod size_words;
 
 use arrayvec::ArrayVec;
 use choice::first_of;
