@@ -73,7 +73,7 @@ more_bytes s bytes is placed few =
 -- ---- the end
 
 -- what is added at the end goes to no label
-aim-end : (aims : List (Option ℕ)) (j : ℕ) → aim_at (aims ++ None ∷ []) j ≡ aim_at aims j
+pub aim-end : (aims : List (Option ℕ)) (j : ℕ) → aim_at (aims ++ None ∷ []) j ≡ aim_at aims j
 aim-end [] zero = refl
 aim-end [] (suc j) = refl
 aim-end (a ∷ more) zero = refl

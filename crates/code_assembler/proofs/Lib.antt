@@ -5,3 +5,4 @@ pub mod StandIn
 pub mod Four
 pub mod Placing
 pub mod AtLabels
+pub mod NoSlots

@@ -4,3 +4,4 @@ pub mod Routine
 pub mod Built
 pub mod Filling
 pub mod Finished
+pub mod Near

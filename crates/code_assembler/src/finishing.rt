@@ -220,7 +220,7 @@ fn assembled_of(
 impl Assembler {
     /// Returns the bytes of the routine with its first byte at the address `base`, in the least layout: short branches unless one does not reach, and no
     /// branch longer than that makes it. A branch on a counter that does not reach goes over a jump. In 64-bit mode a branch to an address that is out of
-    /// reach goes through a slot of eight bytes behind the code.
+    /// reach goes through a slot of eight bytes behind the code; [`Assembler::finish_near`] refuses it.
     ///
     /// The bytes decode at `base` to the instructions in order, each of which goes to its label or its own target; data stands where it was added. The
     /// routine can be finished again, at another address too.

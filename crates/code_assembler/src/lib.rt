@@ -9,6 +9,7 @@ mod generated_codes;
 mod label;
 mod laws_below;
 mod lists;
+mod near;
 mod routine;
 mod stand_in;
 

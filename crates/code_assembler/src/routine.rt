@@ -16,7 +16,7 @@ use crate::lists::{append, append_bytes, fill};
 use crate::stand_in::stand_in;
 use encoder::{NoSpelling, encode};
 use move_goals::Placed;
-use move_goals::moved_targets::{plain_length, target_of};
+use move_goals::moved_targets::target_of;
 use std::alloc::{AllocError, Global};
 use std::marker::Model;
 use x86_values::{Bits, Instr};
@@ -69,9 +69,9 @@ fn item_of(bits: Bits, instr: &Instr) -> Result<Placed, NoSpelling>
     laws_below();
     let ip = target_of(instr).unwrap_or(0);
     match encode(bits, ip, instr) {
-        Ok(_bytes) => Ok(Placed {
+        Ok(bytes) => Ok(Placed {
             ip,
-            len: plain_length(bits, instr),
+            len: bytes.len() as u8,
             instr: *instr,
         }),
         Err(why) => Err(why),
