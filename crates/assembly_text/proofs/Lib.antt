@@ -5,8 +5,12 @@ pub mod Growing
 pub mod Items
 pub mod Resolving
 pub mod Telling
+pub mod Noting
 pub mod Going
 pub mod Labelled
 pub mod Finding
 pub mod Settling
 pub mod Filling
+pub mod Aligned
+pub mod Quiet
+pub mod Spelling

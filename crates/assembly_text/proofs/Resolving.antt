@@ -2,6 +2,7 @@
 use Rattle.std.proofs.Common.{◌≡◌, ℕ, Bool, true, false, zero, suc, max, ◌-◌, ◌<◌, ◌≤◌, List, [], ◌∷◌, ◌++◌, length, take, drop, get_or, Option, None, refl, ap, arith}
 use Rattle.std.specs.Prelude.{◌==◌, if◌then◌else◌}
 use Rattle.assembly_text.specs.Lines.{lines_in, name_len, quote_behind}
+use Rattle.assembly_text.specs.Drafts.{is_stack_word, word_len}
 use Rattle.assembly_text.specs.Constants.{constant_from, bad_from, number_or, part_for, part_len, resolved_from, resolved}
 
 -- bytes of a word before are passed
@@ -56,15 +57,25 @@ cut_back zero cs = refl
 cut_back (suc n) [] = refl
 cut_back (suc n) (c ∷ cs) = ap (λ (xs : List ℕ). c ∷ xs) (cut_back n cs)
 
+-- five or one at least
+some_either : (b : Bool) (m : ℕ) → 0 < (if b then 5 else max 1 m)
+some_either true m = omega arith
+some_either false m = omega arith
+
+-- a word has a byte at least
+word_some : (text : List ℕ) → 0 < word_len text
+unfolding word_len
+word_some text = some_either (is_stack_word text) (name_len text)
+
 -- one at least either way
-one_at_least : (b : Bool) (m : ℕ) → 0 < (if b then max 1 m else 1)
-one_at_least true m = omega arith
-one_at_least false m = omega arith
+one_at_least : (b : Bool) (n : ℕ) → 0 < n → 0 < (if b then n else 1)
+one_at_least true n some = some
+one_at_least false n some = omega arith
 
 -- a part has a byte at least
 part_some : (quote : ℕ) (text : List ℕ) → 0 < part_len quote text
 unfolding part_len
-part_some quote text = one_at_least (quote == 0) (name_len text)
+part_some quote text = one_at_least (quote == 0) (word_len text) (word_some text)
 
 -- a part and what is left of a text
 parted : (n c : ℕ) (cs : List ℕ) → 0 < n → take n (c ∷ cs) ++ drop (n - 1) cs ≡ c ∷ cs

@@ -8,16 +8,16 @@ use Rattle.assembly_text.specs.declared.round.Trace.{Trace}
 use Rattle.assembly_text.specs.declared.text_error.AssembleError.{AssembleError}
 use Rattle.assembly_text.specs.declared.text_error.AssembleError.TheVariants.{NoMemory, AtName, TooManyLabels, AtLine, Unfinished, Unsettled}
 use Rattle.assembly_text.specs.Placing.{View}
-use Rattle.assembly_text.specs.Rounds.{IsAnswerIn, IsLastRound, IsOtherRound, IsNoRoutine, IsNoRound, IsSettled, is_settled, places_of, view}
+use Rattle.assembly_text.specs.Rounds.{IsAnswerIn, IsLastRound, IsOtherRound, IsNoRoutine, IsNoRound, IsSettledBy, is_settled, places_of, view}
 
 -- without a routine there is no round
-pub no_round : (bits : Bits) (v : View) (why : AssembleError) → IsNoRoutine bits v why → IsNoRound bits v why
-no_round bits v NoMemory h = h
-no_round bits v (AtName number) h = h
-no_round bits v TooManyLabels h = h
-no_round bits v (AtLine number column why) h = h
-no_round bits v (Unfinished why) h = absurd h
-no_round bits v Unsettled h = absurd h
+pub no_round : (slots : Bool) (bits : Bits) (v : View) (why : AssembleError) → IsNoRoutine bits v why → IsNoRound slots bits v why
+no_round slots bits v NoMemory h = h
+no_round slots bits v (AtName number) h = h
+no_round slots bits v TooManyLabels h = h
+no_round slots bits v (AtLine number column why) h = h
+no_round slots bits v (Unfinished number column why) h = absurd h
+no_round slots bits v Unsettled h = absurd h
 
 -- ---- settled
 
@@ -43,33 +43,33 @@ other_again f before after h other = rw (h, other) refl
 
 -- ---- one round more
 
-module _ (bits : Bits) (base : ℕ) (names text places : List ℕ) where
+module _ (slots : Bool) (bits : Bits) (base : ℕ) (names text places : List ℕ) where
   -- a round without bytes
-  pub round_bad : (left : ℕ) → 0 < left → (why : AssembleError) → IsNoRound bits (view base names text places) why
-      → IsAnswerIn left bits base names text places (Err why)
+  pub round_bad : (left : ℕ) → 0 < left → (why : AssembleError) → IsNoRound slots bits (view base names text places) why
+      → IsAnswerIn left slots bits base names text places (Err why)
   unfolding IsAnswerIn
   round_bad zero some why h = absurd (omega arith)
   round_bad (suc n) some why h = inl (why, (h, refl))
 
   -- the last round
-  pub round_last : (left : ℕ) → 0 < left → (a : AssembledState) → IsLastRound bits (view base names text places) a
-      → IsAnswerIn left bits base names text places (Ok a)
+  pub round_last : (left : ℕ) → 0 < left → (a : AssembledState) → IsLastRound slots bits (view base names text places) a
+      → IsAnswerIn left slots bits base names text places (Ok a)
   unfolding IsAnswerIn
   round_last zero some a h = absurd (omega arith)
   round_last (suc n) some a h = inr (inl (a, (h, refl)))
 
   -- another round
-  pub round_other : (left : ℕ) → 0 < left → (a : AssembledState) (next : List ℕ) → IsOtherRound bits (view base names text places) a next
-      → (answer : Result AssembledState AssembleError) → IsAnswerIn (left - 1) bits base names text next answer
-      → IsAnswerIn left bits base names text places answer
+  pub round_other : (left : ℕ) → 0 < left → (a : AssembledState) (next : List ℕ) → IsOtherRound slots bits (view base names text places) a next
+      → (answer : Result AssembledState AssembleError) → IsAnswerIn (left - 1) slots bits base names text next answer
+      → IsAnswerIn left slots bits base names text places answer
   unfolding IsAnswerIn
   round_other zero some a next h answer more = absurd (omega arith)
   round_other (suc n) some a next h answer more =
       let e : suc n - 1 ≡ n = omega arith in
-      inr (inr (a, (next, (h, subst (λ (k : ℕ). IsAnswerIn k bits base names text next answer) e more))))
+      inr (inr (a, (next, (h, subst (λ (k : ℕ). IsAnswerIn k slots bits base names text next answer) e more))))
 
   -- no round
-  pub round_none : (left : ℕ) → left ≤ 0 → IsAnswerIn left bits base names text places (Err Unsettled)
+  pub round_none : (left : ℕ) → left ≤ 0 → IsAnswerIn left slots bits base names text places (Err Unsettled)
   unfolding IsAnswerIn
   round_none zero none = refl
   round_none (suc n) none = absurd (omega arith)
@@ -82,8 +82,8 @@ same_places true before after h is = sym ((bytes_eq-Decides after before).0 h)
 same_places false before after h is = absurd cc
 
 -- the last round is settled
-pub last_settled : (bits : Bits) (base : ℕ) (names text places : List ℕ) (a : AssembledState) → IsLastRound bits (view base names text places) a
-    → IsSettled bits base names text a
+pub last_settled : (slots : Bool) (bits : Bits) (base : ℕ) (names text places : List ℕ) (a : AssembledState) → IsLastRound slots bits (view base names text places) a
+    → IsSettledBy slots bits base names text a
 unfolding is_settled
-last_settled bits base names text places a h =
+last_settled slots bits base names text places a h =
     (places, (h.0, (h.1.0, (h.1.1.0, same_places h.1.0.placed places (places_of a base h.0) h.1.1.1))))

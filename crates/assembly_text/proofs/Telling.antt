@@ -1,17 +1,19 @@
 -- What is told of a line.
 use Rattle.std.proofs.Common.{◌≡◌, ℕ, ◌<◌, ◌≤◌, true, false, List, [], ◌∷◌, length, Option, Some, None, refl, sym, ap, subst, inl, inr, ◌∙◌, arith}
-use Rattle.std.specs.Prelude.{Result, Ok, Err, IfOk, MatchOption, is_some, Bool, not, ◌&&◌, bytes_eq}
+use Rattle.std.specs.Prelude.{Result, Ok, Err, IfOk, MatchOption, is_some, Bool, not, ◌&&◌, if◌then◌else◌, bytes_eq}
 use Rattle.std.specs.declared.alloc.AllocError.{AllocError}
 use Rattle.assembly_text.specs.declared.text_error.LineError.{LineError}
+use Rattle.assembly_text.specs.declared.text_error.LineError.TheVariants.{NotData, UnknownName, DoesNotFit}
 use Rattle.code_assembler.specs.Routine.{RoutineState}
 use Rattle.assembly_text.specs.declared.code.Code.{Code}
+use Rattle.assembly_text.specs.declared.code.Code.TheVariants.{Plain, Named, Unsized, Nothing}
 use Rattle.assembly_text.specs.declared.round.Trace.{Trace}
 use Rattle.assembly_text.specs.Lines.{lines_in, shown, label_of, body_of}
 use Rattle.assembly_text.specs.Names.{first_word, behind_word}
-use Rattle.assembly_text.specs.Data.{data_width}
+use Rattle.assembly_text.specs.Data.{data_of, data_width}
 use Rattle.assembly_text.specs.Labels.{number_from, labels_from}
-use Rattle.assembly_text.specs.Placing.{View, is_whole, placed_text}
-use Rattle.assembly_text.specs.Text.{IsCode, AddsCode, RefusesCode, is_open, AddsPlaced, RefusesPlaced, AddsStated, RefusesStated, width_of, AddsData, RefusesData, behind_data, AddsFurther, RefusesFurther, AddsWords, RefusesWords, AddsLabel, AddsBody, RefusesBody, AddsLine, RefusesLine}
+use Rattle.assembly_text.specs.Placing.{View, is_whole, is_nothing, placed, placed_text}
+use Rattle.assembly_text.specs.Text.{IsCode, AddsCode, RefusesCode, is_open, AddsPlaced, RefusesPlaced, AddsStated, RefusesClosed, RefusesStated, width_of, is_ever_data, is_free_data, data_refusal, AddsData, RefusesData, behind_data, AddsFurther, RefusesFurther, AddsWords, RefusesWords, AddsLabel, AddsBody, RefusesBody, AddsLine, RefusesLine}
 
 -- what is told of a line, by other words
 pub told_more : (r : Result (Option LineError) AllocError) (P Q : Type 0) (S T : LineError → Type 0) → (P → Q) → ((w : LineError) → S w → T w)
@@ -59,12 +61,27 @@ pub other_open : (v : View) (text : List ℕ) (code : Code) → is_whole code �
 unfolding is_open
 other_open v text code h other = rw (h, other) refl
 
+-- what is whole is something
+whole_some : (code : Code) → is_whole code ≡ true → is_nothing code ≡ false
+unfolding is_whole is_nothing
+whole_some (Plain i) h = refl
+whole_some (Named at i) h = refl
+whole_some Unsized h = absurd cc
+whole_some Nothing h = absurd cc
+
 module _ (v : View) (text : List ℕ) (code : Code) (s t : RoutineState) (f g : Trace) (r : Result (Option LineError) AllocError) (is : IsCode s.bits v.base text code) where
   -- what is not read again
   pub closed_told : is_open v text code ≡ false → g ≡ record f { after_data = false }
-      → IfOk r (λ o. MatchOption o (AddsCode v.all text code s t) (λ why. RefusesCode v.all text code s why))
+      → IfOk r (λ o. MatchOption o (AddsCode v.all text code s t) (λ why. RefusesClosed v text code s why))
       → IfOk r (λ o. MatchOption o (AddsStated v text s f t g) (λ why. RefusesStated v text s why))
   closed_told closed_is same h = told_more r _ _ _ _ (λ a. (code, (is, inl (closed_is, (a, same))))) (λ w a. (code, (is, inl (closed_is, a)))) h
+
+  -- nor is what is whole
+  pub whole_told : is_whole code ≡ true → g ≡ record f { after_data = false }
+      → IfOk r (λ o. MatchOption o (AddsCode v.all text code s t) (λ why. RefusesCode v.all text code s why))
+      → IfOk r (λ o. MatchOption o (AddsStated v text s f t g) (λ why. RefusesStated v text s why))
+  whole_told whole same h =
+      closed_told (whole_closed v text code whole) same (told_more r _ _ _ _ (λ a. a) (λ w a. inr (whole_some code whole, a)) h)
 
   -- what is
   pub placed_told : is_open v text code ≡ true → g ≡ record { after_data = false; placed = true }

@@ -1,6 +1,7 @@
 -- What a word of an operand is.
-use Rattle.std.specs.Prelude.{ℕ, ◌==◌, Bool, ◌||◌, if◌then◌else◌, List, codes, bytes_eq, Option, Some, None}
+use Rattle.std.specs.Prelude.{ℕ, ◌-◌, ◌==◌, nat_le, Bool, ◌&&◌, ◌||◌, if◌then◌else◌, List, codes, bytes_eq, Option, Some, None}
 use Rattle.x86_values.specs.declared.Register.{Register}
+use Rattle.x86_values.specs.declared.Register.TheVariants.{St}
 use Rattle.intel_words.specs.declared.words.SizeName.TheVariants.{Byte, Word, Dword, Qword, Tbyte, Xmmword, Ymmword, Far16, Far32, Far64}
 use Rattle.intel_words.specs.ReadRegisters.{register_named}
 use Rattle.assembly_text.specs.declared.classes.Class.{Class}
@@ -47,8 +48,16 @@ unfoldable pub register_class : Option Register → List ℕ → Class
 register_class (Some r) word = Reg r
 register_class None word = letters_class word
 
+-- a register of the stack with this digit, from 0 to 7
+unfoldable pub stack_class : ℕ → Class
+stack_class c = if nat_le 48 c && nat_le c 55 then Reg (St (c - 48)) else Other
+
+-- a register, as `rax` and `st(1)`, or another word of letters
+unfoldable pub word_class : List ℕ → Class
+word_class word = if byte_at word 2 == 40 then stack_class (byte_at word 3) else register_class (register_named word) word
+
 -- what a word is
 unfoldable pub class_of : List ℕ → Class
 class_of word =
     if is_digit (byte_at word 0) then number_class (number_of_word word)
-    else (if is_name_byte (byte_at word 0) then register_class (register_named word) word else sign_class (byte_at word 0))
+    else (if is_name_byte (byte_at word 0) then word_class word else sign_class (byte_at word 0))

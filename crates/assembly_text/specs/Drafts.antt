@@ -14,7 +14,7 @@ use Rattle.assembly_text.specs.declared.drafts.Pending.{Pending}
 use Rattle.assembly_text.specs.declared.drafts.Pending.TheVariants.{Nothing, Sign, Number, Reg, Scaled, Name}
 use Rattle.assembly_text.specs.declared.classes.Class.{Class}
 use Rattle.assembly_text.specs.declared.classes.Class.TheVariants.{Blank, Open, Close, Plus, Minus, Star, Colon, Number as NumberWord, Reg as RegWord, Size as SizeWord, Skipped, Rel, Name as NameWord, Other}
-use Rattle.assembly_text.specs.Lines.{name_len}
+use Rattle.assembly_text.specs.Lines.{byte_at, lower_byte, name_len}
 use Rattle.assembly_text.specs.Classes.{class_of}
 
 -- ---- an operand so far
@@ -185,9 +185,14 @@ with_word d at Rel = record d { rel = true }
 with_word d at NameWord = with_pending d (Name at)
 with_word d at Other = unsound d
 
--- how many bytes the word at the front has: a name or a number, or one byte
-abbrev pub word_len : List ℕ → ℕ
-word_len text = max 1 (name_len text)
+-- `st` and a byte in brackets at the front
+unfoldable pub is_stack_word : List ℕ → Bool
+is_stack_word text =
+    byte_at text 2 == 40 && (byte_at text 4 == 41 && (lower_byte (byte_at text 0) == 115 && lower_byte (byte_at text 1) == 116))
+
+-- how many bytes the word at the front has: a register of the stack as `st(1)`, a name or a number, or one byte
+unfoldable pub word_len : List ℕ → ℕ
+word_len text = if is_stack_word text then 5 else max 1 (name_len text)
 
 -- the operand with the words of a text, of which so many bytes belong to a word before; the text begins at a place
 unfoldable pub with_words : Draft → ℕ → ℕ → List ℕ → Draft

@@ -1,6 +1,16 @@
 -- The labels of a text: their numbers, in the order of their lines.
-use Rattle.std.specs.Prelude.{ℕ, ◌+◌, nat_lt, if◌then◌else◌, List, [], ◌∷◌, Option, Some, None, bytes_eq}
-use Rattle.assembly_text.specs.Lines.{shown, has_label, label_of}
+use Rattle.std.specs.Prelude.{ℕ, ◌+◌, Bool, not, ◌&&◌, nat_lt, if◌then◌else◌, List, [], ◌∷◌, map, Option, Some, None, bytes_eq}
+use Rattle.assembly_text.specs.Constants.{is_free_name}
+use Rattle.assembly_text.specs.Lines.{lower_byte, shown, has_label, label_of, begins_name, name_at}
+use Rattle.assembly_text.specs.Names.{is_instruction_name}
+
+-- a name may be that of a label: in no case is it a word of an operand, the name of an instruction or a prefix
+unfoldable pub is_label_name : List ℕ → Bool
+is_label_name name = is_free_name name && not (is_instruction_name (map lower_byte name))
+
+-- a name that may be that of a label begins at a place of a text
+unfoldable pub begins_label : List ℕ → ℕ → Bool
+begins_label text at = begins_name text at && is_label_name (name_at text at)
 
 -- the number of a name by the label of a line, and by the lines behind it
 abbrev pub number_by : Option (List ℕ) → (ℕ → Option ℕ) → List ℕ → ℕ → Option ℕ

@@ -5,6 +5,7 @@ pub mod Classes
 pub mod Drafts
 pub mod Data
 pub mod Constants
+pub mod Spellings
 pub mod Statements
 pub mod Readings
 pub mod Labels
@@ -12,4 +13,5 @@ pub mod Placing
 pub mod Padding
 pub mod Text
 pub mod TextLabels
+pub mod Origins
 pub mod Rounds

@@ -35,6 +35,10 @@ begins_comment quote c = quote == 0 && (c == 59 || c == 35)
 unfoldable pub quote_behind : ℕ → ℕ → ℕ
 quote_behind quote c = if quote == 0 then (if is_quote c then c else 0) else (if c == quote then 0 else quote)
 
+-- a byte with which neither a comment nor a quote begins
+unfoldable pub is_quiet : ℕ → Bool
+is_quiet c = not (begins_comment 0 c) && not (is_quote c)
+
 -- how many bytes a line has before its comment, where a quote is open or none
 unfoldable pub code_len : ℕ → List ℕ → ℕ
 code_len quote [] = 0

@@ -1,5 +1,6 @@
 -- The names of instructions: which the printer writes for one that the manual has besides.
-use Rattle.std.specs.Prelude.{ℕ, ◌==◌, Bool, ◌&&◌, ◌||◌, if◌then◌else◌, List, [], ◌∷◌, ◌++◌, length, take, drop, codes, bytes_eq}
+use Rattle.std.specs.Prelude.{ℕ, ◌==◌, Bool, ◌&&◌, ◌||◌, nat_lt, if◌then◌else◌, List, [], ◌∷◌, ◌++◌, length, take, drop, codes, bytes_eq}
+use Rattle.intel_reader.specs.Mnemonics.{is_mnemonic}
 use Rattle.assembly_text.specs.Lines.{byte_at, unindented, name_len}
 
 -- ---- conditions
@@ -110,3 +111,9 @@ abbrev pub head_text : List ℕ → List ℕ
 head_text text =
     with_space (prefix_of (first_word text)) ++ (with_space (prefix_of (first_word (behind_prefix text)))
     ++ (with_space (prefix_of (first_word (behind_prefix (behind_prefix text)))) ++ (stem (first_word (named_text text)) ++ ending (first_word (named_text text)))))
+
+-- ---- mnemonics
+
+-- a word in lower case is a prefix, or one of the names of an instruction
+unfoldable pub is_instruction_name : List ℕ → Bool
+is_instruction_name word = nat_lt 0 (length (prefix_of word)) || is_mnemonic (stem word ++ ending word)

@@ -6,16 +6,18 @@ use Rattle.assembly_text.specs.declared.code.Code.{Code}
 use Rattle.assembly_text.specs.declared.code.Code.TheVariants.{Plain, Named, Unsized, Nothing}
 use Rattle.assembly_text.specs.declared.drafts.Draft.{Draft}
 use Rattle.assembly_text.specs.declared.numbers.Numbers.{Numbers}
-use Rattle.assembly_text.specs.declared.numbers.Numbers.TheVariants.{Names, Labels}
+use Rattle.assembly_text.specs.declared.numbers.Numbers.TheVariants.{Names, Labels, Free}
 use Rattle.assembly_text.specs.declared.round.Round.{Round}
 use Rattle.assembly_text.specs.declared.round.Trace.{Trace}
 use Rattle.assembly_text.specs.declared.statements.Statement.{Statement}
+use Rattle.assembly_text.specs.declared.text_error.LineError.{LineError}
+use Rattle.assembly_text.specs.declared.text_error.LineError.TheVariants.{NotCode, SizeNeeded, UnknownName}
 use Rattle.assembly_text.specs.Lines.{lines_in}
 use Rattle.assembly_text.specs.Labels.{number_from}
 use Rattle.assembly_text.specs.Constants.{constant_from, is_free_name, resolved_from}
 use Rattle.assembly_text.specs.Drafts.{is_relative}
 use Rattle.assembly_text.specs.Statements.{operands_text, statement_of}
-use Rattle.assembly_text.specs.Readings.{lowered, IsStatedCode}
+use Rattle.assembly_text.specs.Readings.{lowered, IsSpelledCode}
 
 -- ---- rounds
 
@@ -53,14 +55,23 @@ place_by v name (Some n) = if is_free_name name then Some (place_at v n) else No
 abbrev pub label_number : View → List ℕ → Option ℕ
 label_number v name = place_by v name (number_from v.all name 0)
 
--- the number of a word, which is a name of the caller or of a label
+-- 0 for a name that is no word of an operand
+unfoldable pub free_number : List ℕ → Option ℕ
+free_number name = if is_free_name name then Some 0 else None
+
+-- the number of a word, which is a name of the caller or of a label, or any name
 unfoldable pub number_in : Numbers → (List ℕ → Option ℕ)
 number_in (Names names) = constant_from (lines_in names.now)
 number_in (Labels r) = λ word. label_number (view_of r) word
+number_in Free = λ word. free_number word
 
 -- a text with addresses in place of the names of labels
 abbrev pub placed : View → List ℕ → List ℕ
 placed v text = resolved_from (λ word. label_number v word) 0 0 text
+
+-- a text with 0 in place of each name, of a label or not
+abbrev pub freed : List ℕ → List ℕ
+freed text = resolved_from (λ word. free_number word) 0 0 text
 
 -- a text has such names
 abbrev pub has_labels : View → List ℕ → Bool
@@ -80,6 +91,10 @@ placed_behind v at text = take at text ++ placed v (drop at text)
 abbrev pub placed_text : View → List ℕ → List ℕ
 placed_text v text = placed_behind v (operands_at (lowered text)) text
 
+-- the text of an instruction with 0 in place of each name in its operands
+abbrev pub freed_text : List ℕ → List ℕ
+freed_text text = take (operands_at (lowered text)) text ++ freed (drop (operands_at (lowered text)) text)
+
 -- an operand with an address in place of a name is relative where it was with the name
 unfoldable pub placed_part : Bits → Option Draft → Option Draft → Option Draft
 placed_part bits (Some d) (Some e) = Some (record e { rel = e.rel || (is_some d.name && is_relative bits d) })
@@ -98,7 +113,7 @@ placed_statement bits s p = record {
 -- what a text stands for with addresses in place of names
 abbrev pub IsPlacedCode : Bits → ℕ → List ℕ → List ℕ → Code → Type 0
 IsPlacedCode bits ip text placed code =
-    IsStatedCode bits ip (lowered placed) (placed_statement bits (statement_of (lowered text)) (statement_of (lowered placed))) code
+    IsSpelledCode bits ip (lowered placed) (placed_statement bits (statement_of (lowered text)) (statement_of (lowered placed))) code
 
 -- an instruction, which goes to its name if it has one
 unfoldable pub is_whole : Code → Bool
@@ -112,6 +127,23 @@ unfoldable pub is_nothing : Code → Bool
 is_nothing Nothing = true
 is_nothing _ = false
 
--- with 0 as the address of each label a text stands for no instruction, or for one
+-- an instruction that goes to no name
+unfoldable pub is_nameless : Code → Bool
+is_nameless (Plain i) = true
+is_nameless Unsized = true
+is_nameless _ = false
+
+-- with 0 as the address of each label a text stands for an instruction, or for none
 abbrev pub IsUnfit : Bits → View → List ℕ → Bool → Type 0
-IsUnfit bits v text nothing = (code : Code) × (IsPlacedCode bits v.base text (placed_text (zeroed v) text) code × (is_nothing code ≡ nothing))
+IsUnfit bits v text unfit =
+    (code : Code) × (IsPlacedCode bits v.base text (placed_text (zeroed v) text) code × (is_nameless code ≡ unfit))
+
+-- why a text stands for no instruction, by what it stands for with 0 in place of each name
+unfoldable pub refusal_of : Code → LineError
+refusal_of Nothing = NotCode
+refusal_of Unsized = SizeNeeded
+refusal_of _ = UnknownName
+
+-- why a text stands for no instruction: with 0 in place of each name it stands for one, for several, or for none
+abbrev pub IsUnknown : Bits → ℕ → List ℕ → LineError → Type 0
+IsUnknown bits base text why = (code : Code) × (IsPlacedCode bits base text (freed_text text) code × (why ≡ refusal_of code))

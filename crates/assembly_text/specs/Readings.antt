@@ -1,5 +1,5 @@
 -- Which instruction a text stands for as people write it.
-use Rattle.std.specs.Prelude.{◌≡◌, ◌⊎◌, ℕ, true, false, if◌then◌else◌, is_some, List, [], ◌∷◌, map, Option, Some, None}
+use Rattle.std.specs.Prelude.{◌≡◌, ◌⊎◌, ℕ, Bool, true, false, if◌then◌else◌, is_some, List, [], ◌∷◌, map, Option, Some, None}
 use Rattle.x86_values.specs.declared.Bits.{Bits}
 use Rattle.x86_values.specs.declared.Instr.{Instr}
 use Rattle.intel_words.specs.declared.words.SizeName.{SizeName}
@@ -11,6 +11,7 @@ use Rattle.assembly_text.specs.declared.readings.Reading.TheVariants.{None as No
 use Rattle.assembly_text.specs.declared.statements.Statement.{Statement}
 use Rattle.assembly_text.specs.declared.statements.Width.{Width}
 use Rattle.assembly_text.specs.Lines.{lower_byte}
+use Rattle.assembly_text.specs.Spellings.{preferred, other_front, other_statement}
 use Rattle.assembly_text.specs.Statements.{full_text, statement_of, is_sound, name_of, widths_of, sizes_of}
 
 -- a text in lower case
@@ -53,6 +54,24 @@ IsStatedCode bits base low s code =
     ((is_sound s ≡ false) × (code ≡ Nothing))
     ⊎ ((is_sound s ≡ true) × ((r : Reading) × (IsReading bits (address_of base s) low s (sizes_of s) NoReading r × (code ≡ code_of_reading (name_of s) r))))
 
+-- an instruction
+unfoldable pub is_found : Code → Bool
+is_found (Plain i) = true
+is_found (Named at i) = true
+is_found _ = false
+
+-- what a text stands for by other operands, if it stands for something by them
+unfoldable pub found_or : Code → Code → Code
+found_or first Nothing = first
+found_or first other = other
+
+-- What the operands of a text say together, or if that is no instruction what they say by the rules for operands that people swap or leave out.
+abbrev pub IsSpelledCode : Bits → ℕ → List ℕ → Statement → Code → Type 0
+IsSpelledCode bits base low s code =
+    (first : Code) × (IsStatedCode bits base low (preferred low s) first
+    × (((is_found first ≡ true) × (code ≡ first))
+    ⊎ ((is_found first ≡ false) × ((other : Code) × (IsStatedCode bits base (other_front low s) (other_statement bits low s) other × (code ≡ found_or first other))))))
+
 -- what a text stands for as people write it
 abbrev pub IsFreeCode : Bits → ℕ → List ℕ → Code → Type 0
-IsFreeCode bits base text code = IsStatedCode bits base (lowered text) (statement_of (lowered text)) code
+IsFreeCode bits base text code = IsSpelledCode bits base (lowered text) (statement_of (lowered text)) code

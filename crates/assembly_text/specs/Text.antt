@@ -1,5 +1,5 @@
 -- Routines as text: which instruction a line stands for, which label it goes to, and what the lines of a text add to a routine in a round.
-use Rattle.std.specs.Prelude.{◌≡◌, ◌⊎◌, ℕ, ◌+◌, ◌<◌, Bool, true, false, not, ◌&&◌, ◌||◌, List, [], ◌∷◌, ◌++◌, length, Option, Some, None, Result, Ok, Err, bytes_eq, is_some, alloc_error}
+use Rattle.std.specs.Prelude.{◌≡◌, ◌⊎◌, ℕ, ◌+◌, ◌<◌, Bool, true, false, not, ◌&&◌, ◌||◌, if◌then◌else◌, List, [], ◌∷◌, ◌++◌, length, Option, Some, None, Result, Ok, Err, bytes_eq, is_some, alloc_error}
 use Rattle.std.specs.declared.alloc.AllocError.{AllocError}
 use Rattle.x86_values.specs.declared.Bits.{Bits}
 use Rattle.x86_values.specs.declared.Instr.{Instr}
@@ -13,14 +13,14 @@ use Rattle.assembly_text.specs.declared.code.Code.{Code}
 use Rattle.assembly_text.specs.declared.code.Code.TheVariants.{Plain, Named, Unsized, Nothing}
 use Rattle.assembly_text.specs.declared.round.Trace.{Trace}
 use Rattle.assembly_text.specs.declared.text_error.LineError.{LineError}
-use Rattle.assembly_text.specs.declared.text_error.LineError.TheVariants.{NotCode, SizeNeeded, NotData, UnknownName, Refused, DoesNotFit, BadAlignment}
-use Rattle.assembly_text.specs.Lines.{shown, shown_column, body_column, label_of, body_of, begins_name, name_at, without_name}
+use Rattle.assembly_text.specs.declared.text_error.LineError.TheVariants.{NotCode, SizeNeeded, NotData, UnknownName, Refused, DoesNotFit, BadAlignment, BadLabel}
+use Rattle.assembly_text.specs.Lines.{shown, shown_column, body_column, label_of, body_of, name_at, without_name}
 use Rattle.assembly_text.specs.Names.{first_word, behind_word}
 use Rattle.assembly_text.specs.Data.{data_of, data_width}
 use Rattle.assembly_text.specs.Constants.{bad_from, resolved}
 use Rattle.assembly_text.specs.Readings.{IsFreeCode}
-use Rattle.assembly_text.specs.Labels.{number_of, labels_from}
-use Rattle.assembly_text.specs.Placing.{View, zeroed, no_trace, place_at, placed, has_labels, placed_text, IsPlacedCode, is_whole, is_nothing, IsUnfit}
+use Rattle.assembly_text.specs.Labels.{is_label_name, begins_label, number_of, labels_from}
+use Rattle.assembly_text.specs.Placing.{View, zeroed, no_trace, place_at, placed, has_labels, placed_text, freed, IsPlacedCode, is_whole, is_nothing, IsUnfit, IsUnknown}
 use Rattle.assembly_text.specs.Padding.{is_align, alignment_in, gap, padding}
 
 -- ---- instructions
@@ -37,14 +37,14 @@ pub record IsAimedAt (bits : Bits) (text : List ℕ) (at : ℕ) (i : Instr) : Ty
 
 -- the first name with which the text stands for an instruction that goes somewhere
 pub record IsNamed (bits : Bits) (text : List ℕ) (at : ℕ) (i : Instr) : Type 0 where
-  pub begins : begins_name text at ≡ true
+  pub begins : begins_label text at ≡ true
   pub within : at < length text
   pub aimed : IsAimedAt bits text at i
-  pub first : (j : ℕ) → j < at → begins_name text j ≡ true → IsNotNamed bits text j
+  pub first : (j : ℕ) → j < at → begins_label text j ≡ true → IsNotNamed bits text j
 
 -- with no name does the text stand for an instruction that goes somewhere
 abbrev pub IsUnnamed : Bits → List ℕ → Type 0
-IsUnnamed bits text = (j : ℕ) → j < length text → begins_name text j ≡ true → IsNotNamed bits text j
+IsUnnamed bits text = (j : ℕ) → j < length text → begins_label text j ≡ true → IsNotNamed bits text j
 
 -- what a text stands for that `asm` does not read: with a name in place of its target, or as people write it
 abbrev pub IsFurtherCode : Bits → ℕ → List ℕ → Code → Type 0
@@ -85,12 +85,14 @@ RefusesCode lines text code s why = ⊥
 abbrev pub AddsLabel : List (List ℕ) → Option (List ℕ) → RoutineState → RoutineState → Type 0
 AddsLabel lines None s t = t ≡ s
 AddsLabel lines (Some name) s t =
-    (n : ℕ) × ((number_of lines (length s.labels) name ≡ Some n) × ((place_refusal s n ≡ None) × (t ≡ with_place s n)))
+    (is_label_name name ≡ true) × ((n : ℕ) × ((number_of lines (length s.labels) name ≡ Some n) × ((place_refusal s n ≡ None) × (t ≡ with_place s n))))
 
 -- and why it adds nothing
 abbrev pub RefusesLabel : List (List ℕ) → Option (List ℕ) → RoutineState → LineError → Type 0
-RefusesLabel lines (Some name) s UnknownName = number_of lines (length s.labels) name ≡ None
-RefusesLabel lines (Some name) s (Refused why) = (n : ℕ) × ((number_of lines (length s.labels) name ≡ Some n) × (place_refusal s n ≡ Some why))
+RefusesLabel lines (Some name) s BadLabel = is_label_name name ≡ false
+RefusesLabel lines (Some name) s UnknownName = (is_label_name name ≡ true) × (number_of lines (length s.labels) name ≡ None)
+RefusesLabel lines (Some name) s (Refused why) =
+    (is_label_name name ≡ true) × ((n : ℕ) × ((number_of lines (length s.labels) name ≡ Some n) × (place_refusal s n ≡ Some why)))
 RefusesLabel lines label s why = ⊥
 
 -- ---- labels as numbers
@@ -105,17 +107,16 @@ AddsPlaced v text s t =
     (code : Code) × (IsPlacedCode s.bits v.base text (placed_text v text) code
     × ((is_nothing code ≡ false) × AddsCode v.all (placed_text v text) code s t))
 
--- why a text that is no instruction with addresses adds nothing
-abbrev pub RefusesUnfit : View → List ℕ → RoutineState → LineError → Type 0
-RefusesUnfit v text s NotCode = IsUnfit s.bits v text true
-RefusesUnfit v text s DoesNotFit = IsUnfit s.bits v text false
-RefusesUnfit v text s why = ⊥
+-- Why a text is no instruction with addresses: with 0 as the address of each label it would be one, or it has an unknown name, or neither.
+abbrev pub IsUnplaced : Bits → View → List ℕ → LineError → Type 0
+IsUnplaced bits v text why =
+    (IsUnfit bits v text true × (why ≡ DoesNotFit)) ⊎ (IsUnfit bits v text false × IsUnknown bits v.base text why)
 
 -- why it adds nothing
 abbrev pub RefusesPlaced : View → List ℕ → RoutineState → LineError → Type 0
 RefusesPlaced v text s why =
     (code : Code) × (IsPlacedCode s.bits v.base text (placed_text v text) code
-    × (((is_nothing code ≡ true) × RefusesUnfit v text s why) ⊎ ((is_nothing code ≡ false) × RefusesCode v.all (placed_text v text) code s why)))
+    × (((is_nothing code ≡ true) × IsUnplaced s.bits v text why) ⊎ ((is_nothing code ≡ false) × RefusesCode v.all (placed_text v text) code s why)))
 
 -- what the text of an instruction adds, and what is passed on: with addresses or without
 abbrev pub AddsStated : View → List ℕ → RoutineState → Trace → RoutineState → Trace → Type 0
@@ -124,11 +125,16 @@ AddsStated v text s f t g =
     × (((is_open v text code ≡ false) × (AddsCode v.all text code s t × (g ≡ record f { after_data = false })))
     ⊎ ((is_open v text code ≡ true) × (AddsPlaced v text s t × (g ≡ record { after_data = false; placed = true })))))
 
+-- why what has no names of labels adds nothing
+abbrev pub RefusesClosed : View → List ℕ → Code → RoutineState → LineError → Type 0
+RefusesClosed v text code s why =
+    ((is_nothing code ≡ true) × IsUnknown s.bits v.base text why) ⊎ ((is_nothing code ≡ false) × RefusesCode v.all text code s why)
+
 -- and why it adds nothing
 abbrev pub RefusesStated : View → List ℕ → RoutineState → LineError → Type 0
 RefusesStated v text s why =
     (code : Code) × (IsCode s.bits v.base text code
-    × (((is_open v text code ≡ false) × RefusesCode v.all text code s why) ⊎ ((is_open v text code ≡ true) × RefusesPlaced v text s why)))
+    × (((is_open v text code ≡ false) × RefusesClosed v text code s why) ⊎ ((is_open v text code ≡ true) × RefusesPlaced v text s why)))
 
 -- ---- data
 
@@ -137,13 +143,24 @@ abbrev pub AddsData : View → ℕ → List ℕ → RoutineState → RoutineStat
 AddsData v width text s t =
     (bytes : List ℕ) × ((data_of width (placed v text) ≡ Some bytes) × ((bytes_refusal s bytes ≡ None) × (t ≡ with_bytes s bytes)))
 
--- and why it adds nothing: with 0 as the address of each label it would be data, or not
+-- it would be data with 0 as the address of each label
+abbrev pub is_ever_data : View → ℕ → List ℕ → Bool
+is_ever_data v width text = is_some (data_of width (placed (zeroed v) text))
+
+-- it would be data with 0 in place of each name
+abbrev pub is_free_data : ℕ → List ℕ → Bool
+is_free_data width text = is_some (data_of width (freed text))
+
+-- why a text is no data: an address does not fit, a name is unknown, or neither
+abbrev pub data_refusal : View → ℕ → List ℕ → LineError
+data_refusal v width text =
+    if is_ever_data v width text then DoesNotFit else (if is_free_data width text then UnknownName else NotData)
+
+-- and why it adds nothing
 abbrev pub RefusesData : View → ℕ → List ℕ → RoutineState → LineError → Type 0
-RefusesData v width text s NotData = (data_of width (placed v text) ≡ None) × (is_some (data_of width (placed (zeroed v) text)) ≡ false)
-RefusesData v width text s DoesNotFit = (data_of width (placed v text) ≡ None) × (is_some (data_of width (placed (zeroed v) text)) ≡ true)
 RefusesData v width text s (Refused why) =
     (bytes : List ℕ) × ((data_of width (placed v text) ≡ Some bytes) × (bytes_refusal s bytes ≡ Some why))
-RefusesData v width text s why = ⊥
+RefusesData v width text s why = (data_of width (placed v text) ≡ None) × (why ≡ data_refusal v width text)
 
 -- ---- alignment
 
@@ -239,8 +256,9 @@ first_state bits v = with_labels bits (labels_from v.all 0)
 abbrev pub IsRoutineOf : Bits → View → RoutineState → Trace → Type 0
 IsRoutineOf bits v s f = (bad_from v.names 0 ≡ None) × AddLines v v.all (first_state bits v) no_trace s f
 
--- the column of what is refused in a line: a label that has a place already, or what the line says besides its label
+-- the column of what is refused in a line: a label that is none or has a place already, or what the line says besides its label
 unfoldable pub column_of : List ℕ → LineError → ℕ
+column_of line BadLabel = shown_column line
 column_of line (Refused (PlacedTwice label)) = shown_column line
 column_of line why = body_column line
 

@@ -150,6 +150,30 @@ fn register_class(register: Option<Register>, word: &[u8]) -> Class
     }
 }
 
+/// A register of the stack with this digit, from 0 to 7.
+#[tactic(auto, unfolding(crate::specs::Classes::stack_class))]
+fn stack_class(c: u8) -> Class
+    ensures { result ≡ spec.stack_class c }
+{
+    if b'0' <= c && c <= b'7' {
+        Class::Reg(Register::St(c - b'0'))
+    } else {
+        Class::Other
+    }
+}
+
+/// A register, as `rax` and `st(1)`, or another word of letters.
+#[tactic(auto, unfolding(crate::specs::Classes::word_class))]
+fn word_class(word: &[u8]) -> Class
+    ensures { result ≡ spec.word_class word.now }
+{
+    if byte_at(word, 2) == b'(' {
+        stack_class(byte_at(word, 3))
+    } else {
+        register_class(register_named(word), word)
+    }
+}
+
 /// What a word is.
 #[tactic(auto, unfolding(crate::specs::Classes::class_of))]
 pub(crate) fn class_of(word: &[u8]) -> Class
@@ -159,7 +183,7 @@ pub(crate) fn class_of(word: &[u8]) -> Class
     if is_digit(c) {
         number_class(number_of_word(word))
     } else if is_name_byte(c) {
-        register_class(register_named(word), word)
+        word_class(word)
     } else {
         sign_class(c)
     }

@@ -72,7 +72,7 @@ fn fits_bytes(count: usize, d: &Draft) -> bool
 
 /// Whether an operand has no brackets.
 #[tactic(auto, unfolding(crate::specs::Data::is_front))]
-fn is_front(d: &Draft) -> bool
+pub(crate) fn is_front(d: &Draft) -> bool
     ensures { result ≡ spec.is_front d.now }
 {
     match d.place {

@@ -5,7 +5,7 @@ ghost use Rattle.text_parts.specs.Addresses.{is_instruction_pointer};
 ghost use Rattle.assembly_text.specs.Drafts as spec;
 
 use crate::classes::{Class, class_of};
-use crate::line::name_len;
+use crate::line::{byte_at, lower_byte, name_len};
 use intel_words::words::SizeName;
 use x86_values::{Bits, Register, Segment, modulus};
 
@@ -76,7 +76,7 @@ pub(crate) struct Draft {
 
 /// An operand before its first word.
 #[tactic(auto, unfolding(crate::specs::Drafts::no_words))]
-fn no_words() -> Draft
+pub(crate) fn no_words() -> Draft
     ensures { result ≡ spec.no_words }
 {
     Draft {
@@ -479,14 +479,29 @@ fn with_word(d: &Draft, at: usize, class: Class) -> Draft
     }
 }
 
+/// Whether a text begins with `st` and a byte in brackets.
+#[tactic(auto, unfolding(crate::specs::Drafts::is_stack_word))]
+fn is_stack_word(text: &[u8]) -> bool
+    ensures { result ≡ spec.is_stack_word text.now }
+{
+    byte_at(text, 2) == b'('
+        && (byte_at(text, 4) == b')'
+            && (lower_byte(byte_at(text, 0)) == b's' && lower_byte(byte_at(text, 1)) == b't'))
+}
+
 /// How many bytes the word at the front has.
+#[tactic(auto, unfolding(crate::specs::Drafts::word_len, crate::specs::Drafts::is_stack_word))]
 pub(crate) fn word_len(text: &[u8]) -> usize
     requires { 0 < length text.now }
     ensures value { result ≡ spec.word_len text.now }
     ensures some { 0 < result }
     ensures within { result ≤ length text.now }
 {
-    name_len(text).max(1)
+    if is_stack_word(text) {
+        5
+    } else {
+        name_len(text).max(1)
+    }
 }
 
 /// The operand with the words of a text that begins at a place.

@@ -5,7 +5,9 @@ ghost use Rattle.std.specs.HashMap as hash;
 ghost use Rattle.assembly_text.specs.Lines as lines;
 ghost use Rattle.assembly_text.specs.Labels as spec;
 
-use crate::line::{first_line, label_of, shown};
+use crate::constants::is_free_name;
+use crate::line::{begins_name, first_line, label_of, lowered, name_at, shown};
+use crate::names::is_instruction_name;
 use code_assembler::{Assembler, Label};
 use std::alloc::{AllocError, Global};
 use std::collections::HashMap;
@@ -15,9 +17,37 @@ use std::collections::HashMap;
 pub(crate) struct Labels<'a> {
     /// The text.
     pub(crate) text: &'a [u8],
+    /// How many labels it has.
+    pub(crate) count: usize,
     /// The number of the first label of each name.
     numbers: HashMap<&'a [u8], usize>,
+    ghost counted: { count ≡ spec.labels_from (lines.lines_in text.now) 0 },
     ghost right: { (name : List ℕ) → hash.get_by (λ k. bytes_eq name k.now) numbers ≡ spec.number_from (lines.lines_in text.now) name 0 },
+}
+
+/// Whether a name may be that of a label: it is no word of an operand, no name of an instruction and no prefix, in any case.
+#[tactic(auto, unfolding(crate::specs::Labels::is_label_name))]
+pub(crate) fn is_label_name(alloc: Global, name: &[u8]) -> Result<bool, AllocError>
+    ensures { IfOk result (λ may. may ≡ spec.is_label_name name.now) }
+{
+    let free = is_free_name(alloc, name)?;
+    if !free {
+        return Ok(false);
+    }
+    let low = lowered(alloc, name)?;
+    let taken = is_instruction_name(alloc, &low)?;
+    Ok(!taken)
+}
+
+/// Whether a name that may be that of a label begins at a place of a text.
+#[tactic(auto, unfolding(crate::specs::Labels::begins_label))]
+pub(crate) fn begins_label(alloc: Global, text: &[u8], at: usize) -> Result<bool, AllocError>
+    ensures { IfOk result (λ begins. begins ≡ spec.begins_label text.now at) }
+{
+    if !begins_name(text, at) {
+        return Ok(false);
+    }
+    is_label_name(alloc, name_at(text, at))
 }
 
 /// Gives a name a number, if it has none.
@@ -36,7 +66,7 @@ fn add_name<'a>(
 }
 
 /// The labels of a text.
-#[tactic(auto, unfolding(crate::specs::Labels::number_from))]
+#[tactic(auto, unfolding(crate::specs::Labels::number_from, crate::specs::Labels::labels_from))]
 pub(crate) fn labels_in(alloc: Global, text: &[u8]) -> Result<Labels<'_>, AllocError>
     ensures { IfOk result (λ labels. labels.text.now ≡ text.now) }
 {
@@ -51,7 +81,11 @@ pub(crate) fn labels_in(alloc: Global, text: &[u8]) -> Result<Labels<'_>, AllocE
         }
         rest = behind;
     }
-    Ok(Labels { text, numbers })
+    Ok(Labels {
+        text,
+        count,
+        numbers,
+    })
 }
 
 /// The number of the first label of a name.
@@ -70,21 +104,4 @@ pub(crate) fn label_named(routine: &Assembler, labels: &Labels<'_>, name: &[u8])
         None => None,
         Some(number) => routine.label_at(number),
     }
-}
-
-/// How many labels a text has.
-#[tactic(auto, unfolding(crate::specs::Labels::labels_from))]
-pub(crate) fn labels_of(text: &[u8]) -> usize
-    ensures { result ≡ spec.labels_from (lines.lines_in text.now) 0 }
-{
-    let mut rest = text;
-    let mut count = 0;
-    'lines: while !rest.is_empty() {
-        let (line, behind) = first_line(rest);
-        if label_of(shown(line)).is_some() {
-            count += 1;
-        }
-        rest = behind;
-    }
-    count
 }

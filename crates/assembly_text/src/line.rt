@@ -1,6 +1,6 @@
 //! The parts of a line of code.
 
-ghost use Rattle.std.specs.Prelude.{◌≡◌, ◌≤◌, ◌<◌, ◌∷◌, map, take, drop, length, IfOk, MatchOption, Some, None};
+ghost use Rattle.std.specs.Prelude.{◌≡◌, ◌≤◌, ◌<◌, ◌∷◌, ℕ, List, map, take, drop, length, IfOk, MatchOption, Some, None};
 ghost use Rattle.std.specs.List.{prefix_len, suffix_len};
 ghost use Rattle.assembly_text.specs.Lines as spec;
 ghost use Rattle.assembly_text.specs.Lines.{is_blank, is_name_byte};
@@ -82,9 +82,43 @@ pub(crate) fn quote_behind(quote: u8, c: u8) -> u8
     }
 }
 
-/// How many bytes a line has before its comment.
-#[tactic(auto, unfolding(crate::specs::Lines::code_len))]
+/// Whether a byte begins neither a comment nor a quote.
+#[inline]
+#[tactic(auto, unfolding(crate::specs::Lines::is_quiet))]
+fn is_quiet(c: u8) -> bool
+    ensures { result ≡ spec.is_quiet c }
+{
+    !begins_comment(0, c) && !is_quote(c)
+}
+
+/// How many bytes a line has before its first comment or quote.
+fn quiet_len(line: &[u8]) -> usize
+    ensures value { result ≡ prefix_len spec.is_quiet line.now }
+    ensures within { result ≤ length line.now }
+{
+    for (i, c) in line.iter().enumerate() {
+        if !is_quiet(*c) {
+            return i;
+        }
+    }
+    line.len()
+}
+
+/// How many bytes a line has before its comment. Most have neither a comment nor a quote.
 fn code_len(line: &[u8]) -> usize
+    ensures value { result ≡ spec.code_len 0 line.now }
+    ensures within { result ≤ length line.now }
+{
+    if quiet_len(line) == line.len() {
+        line.len()
+    } else {
+        quoted_len(line)
+    }
+}
+
+/// How many bytes a line, in which a quote may open, has before its comment.
+#[tactic(auto, unfolding(crate::specs::Lines::code_len))]
+fn quoted_len(line: &[u8]) -> usize
     ensures value { result ≡ spec.code_len 0 line.now }
     ensures within { result ≤ length line.now }
 {
@@ -151,7 +185,7 @@ pub(crate) fn trimmed(text: &[u8]) -> &[u8]
 }
 
 /// A line without its comment.
-fn code_of(line: &[u8]) -> &[u8]
+pub(crate) fn code_of(line: &[u8]) -> &[u8]
     ensures { result.now ≡ spec.code_of line.now }
 {
     line.split_at(code_len(line)).0
@@ -216,12 +250,20 @@ pub(crate) fn shown_column(line: &[u8]) -> usize
     blanks_len(code_of(line)) + 1
 }
 
+/// The column of what a line says besides its label, by its code.
+pub(crate) fn code_column(code: &[u8]) -> usize
+    ensures { (line : List ℕ) → code.now ≡ spec.code_of line → result ≡ spec.body_column line }
+{
+    let blanks = blanks_len(code);
+    let shown = unpadded(code.split_at(blanks).1);
+    (blanks + 1).saturating_add(shown.len().saturating_sub(body_of(shown).len()))
+}
+
 /// The column of what a line says besides its label.
 pub(crate) fn body_column(line: &[u8]) -> usize
     ensures { result ≡ spec.body_column line.now }
 {
-    let shown = shown(line);
-    shown_column(line).saturating_add(shown.len().saturating_sub(body_of(shown).len()))
+    code_column(code_of(line))
 }
 
 /// The label of a line, if it has one.

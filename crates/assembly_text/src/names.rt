@@ -1,10 +1,14 @@
 //! The names of instructions: which the printer writes for one that the manual has besides.
 
-ghost use Rattle.std.specs.Prelude.{◌≡◌, ◌++◌, OnOk};
+ghost use Rattle.std.specs.Prelude.{◌≡◌, ◌++◌, IfOk, OnOk};
 ghost use Rattle.assembly_text.specs.Names as spec;
 
 use crate::line::{behind, byte_at, front_of, split_name, unindented};
-use std::alloc::AllocError;
+use intel_reader::mnemonics::is_mnemonic;
+use std::alloc::{AllocError, Global};
+
+/// How many bytes most names of instructions have at most.
+const NAME_LEN: usize = 16;
 
 /// The condition of another name for it, of those about carry and zero.
 #[tactic(auto, unfolding(crate::specs::Names::carry_condition))]
@@ -205,11 +209,10 @@ fn put_prefix(out: &mut Vec<u8>, text: &[u8]) -> Result<(), AllocError>
     Ok(())
 }
 
-/// Appends the name at the front.
-fn put_name(out: &mut Vec<u8>, text: &[u8]) -> Result<(), AllocError>
-    ensures { OnOk result (out.new.items ≡ out.old.items ++ (spec.stem (spec.first_word text.now) ++ spec.ending (spec.first_word text.now))) }
+/// Appends the name that the printer writes for a name.
+fn put_name(out: &mut Vec<u8>, word: &[u8]) -> Result<(), AllocError>
+    ensures { OnOk result (out.new.items ≡ out.old.items ++ (spec.stem word.now ++ spec.ending word.now)) }
 {
-    let word = first_word(text);
     let count = before_condition(word);
     out.extend_from_slice(plain_name(front_of(word, count)))?;
     out.extend_from_slice(condition(behind(word, count)))?;
@@ -225,5 +228,18 @@ pub(crate) fn put_head(out: &mut Vec<u8>, text: &[u8]) -> Result<(), AllocError>
     put_prefix(out, text)?;
     put_prefix(out, second)?;
     put_prefix(out, third)?;
-    put_name(out, behind_prefix(third))
+    put_name(out, first_word(behind_prefix(third)))
+}
+
+/// Whether a word in lower case is a prefix, or one of the names of an instruction.
+#[tactic(auto, unfolding(crate::specs::Names::is_instruction_name))]
+pub(crate) fn is_instruction_name(alloc: Global, word: &[u8]) -> Result<bool, AllocError>
+    ensures { IfOk result (λ is. is ≡ spec.is_instruction_name word.now) }
+{
+    if !prefix_of(word).is_empty() {
+        return Ok(true);
+    }
+    let mut name = Vec::with_capacity(alloc, NAME_LEN)?;
+    put_name(&mut name, word)?;
+    Ok(is_mnemonic(&name))
 }

@@ -1,6 +1,6 @@
 //! Texts in which numbers take the place of names: those of the caller's names, and the addresses of labels.
 
-ghost use Rattle.std.specs.Prelude.{◌≡◌, ◌≤◌, ◌<◌, ◌++◌, IfOk, OnOk, length};
+ghost use Rattle.std.specs.Prelude.{◌≡◌, ◌≤◌, ◌<◌, ◌++◌, IfOk, OnOk, length, take, drop};
 ghost use Rattle.assembly_text.specs.Lines.{lines_in};
 ghost use Rattle.assembly_text.specs.Constants as constants;
 ghost use Rattle.assembly_text.specs.Placing as spec;
@@ -20,6 +20,8 @@ pub(crate) enum Numbers<'a, 'b, 'c> {
     Names(&'a [u8]),
     /// The labels of a round.
     Labels(Round<'a, 'b, 'c>),
+    /// Each name, with the number 0.
+    Free,
 }
 
 /// The address of the first label of a name, if the name is no word of an operand.
@@ -44,6 +46,15 @@ fn label_number(
     }
 }
 
+/// 0 for a name that is no word of an operand.
+#[tactic(auto, unfolding(crate::specs::Placing::free_number))]
+fn free_number(alloc: Global, name: &[u8]) -> Result<Option<u64>, AllocError>
+    ensures { IfOk result (λ number. number ≡ spec.free_number name.now) }
+{
+    let free = is_free_name(alloc, name)?;
+    if free { Ok(Some(0)) } else { Ok(None) }
+}
+
 /// The number of a word.
 #[tactic(auto, unfolding(crate::specs::Placing::number_in))]
 fn number_in(
@@ -56,6 +67,7 @@ fn number_in(
     match numbers {
         Numbers::Names(names) => constant_named(alloc, names, word),
         Numbers::Labels(round) => label_number(alloc, round, word),
+        Numbers::Free => free_number(alloc, word),
     }
 }
 
@@ -154,5 +166,26 @@ pub(crate) fn placed_behind(
     let mut out = Vec::with_capacity(alloc, text.len())?;
     out.extend_from_slice(front_of(text, at))?;
     put_numbers(alloc, &mut out, &Numbers::Labels(*round), behind(text, at))?;
+    Ok(out)
+}
+
+/// A text with 0 in place of each name.
+#[tactic(auto, unfolding(crate::specs::Placing::number_in))]
+pub(crate) fn freed(alloc: Global, text: &[u8]) -> Result<Vec<u8>, AllocError>
+    ensures { IfOk result (λ out. out.items ≡ spec.freed text.now) }
+{
+    let mut out = Vec::with_capacity(alloc, text.len())?;
+    put_numbers(alloc, &mut out, &Numbers::Free, text)?;
+    Ok(out)
+}
+
+/// The text of an instruction, whose operands begin at a place, with 0 in place of each name in them.
+#[tactic(auto, unfolding(crate::specs::Placing::number_in))]
+pub(crate) fn freed_behind(alloc: Global, at: usize, text: &[u8]) -> Result<Vec<u8>, AllocError>
+    ensures { IfOk result (λ out. out.items ≡ take at text.now ++ spec.freed (drop at text.now)) }
+{
+    let mut out = Vec::with_capacity(alloc, text.len())?;
+    out.extend_from_slice(front_of(text, at))?;
+    put_numbers(alloc, &mut out, &Numbers::Free, behind(text, at))?;
     Ok(out)
 }

@@ -18,6 +18,9 @@ const MOST_ALIGNED: u64 = 4096;
 pub(crate) fn is_align(alloc: Global, word: &[u8]) -> Result<bool, AllocError>
     ensures { IfOk result (λ align. align ≡ spec.is_align word.now) }
 {
+    if word.len() != 5 {
+        return Ok(false);
+    }
     let low = lowered(alloc, word)?;
     Ok(low.as_slice() == b"align".as_slice())
 }

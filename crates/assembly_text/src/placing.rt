@@ -8,10 +8,11 @@ use crate::code::Code;
 use crate::drafts::{Draft, is_relative};
 use crate::line::lowered;
 use crate::names::{behind_word, named_text};
-use crate::numbers::placed_behind;
-use crate::readings::stated_code;
+use crate::numbers::{freed_behind, placed_behind};
+use crate::readings::spelled_code;
 use crate::round::{Round, zeroed};
 use crate::statements::{Statement, statement_of};
+use crate::text_error::LineError;
 use move_goals::moved_targets::target_of;
 use std::alloc::{AllocError, Global};
 use x86_values::Bits;
@@ -91,6 +92,7 @@ fn placed_statement(bits: Bits, named: &Statement, s: &Statement) -> Statement
 }
 
 /// What a text stands for with addresses in place of names.
+#[tactic(auto, using(crate::proofs::Spelling::spelled_by))]
 pub(crate) fn placed_code(
     alloc: Global,
     bits: Bits,
@@ -103,19 +105,65 @@ pub(crate) fn placed_code(
     let named = lowered(alloc, text)?;
     let low = lowered(alloc, placed)?;
     let statement = placed_statement(bits, &statement_of(&named), &statement_of(&low));
-    stated_code(alloc, bits, base, &low, &statement)
+    spelled_code(alloc, bits, base, &low, &statement)
 }
 
-/// Whether a text stands for no instruction even with 0 as the address of each label.
-pub(crate) fn is_never_code(
+/// Whether this is an instruction that goes to no name.
+#[tactic(auto, unfolding(crate::specs::Placing::is_nameless))]
+fn is_nameless(code: &Code) -> bool
+    ensures { result ≡ spec.is_nameless code.now }
+{
+    match code {
+        Code::Plain(_) => true,
+        Code::Unsized => true,
+        _ => false,
+    }
+}
+
+/// Whether a text stands for an instruction with 0 as the address of each label.
+pub(crate) fn is_unfit(
     alloc: Global,
     bits: Bits,
     round: &Round<'_, '_, '_>,
     text: &[u8],
 ) -> Result<bool, AllocError>
-    ensures { IfOk result (λ never. spec.IsUnfit bits (spec.view_of round.now) text.now never) }
+    ensures { IfOk result (λ unfit. spec.IsUnfit bits (spec.view_of round.now) text.now unfit) }
 {
     let placed = placed_text(alloc, &zeroed(round), text)?;
     let code = placed_code(alloc, bits, round.base, text, &placed)?;
-    Ok(is_nothing(&code))
+    Ok(is_nameless(&code))
+}
+
+/// The text of an instruction with 0 in place of each name in its operands.
+fn freed_text(alloc: Global, text: &[u8]) -> Result<Vec<u8>, AllocError>
+    ensures { IfOk result (λ out. out.items ≡ spec.freed_text text.now) }
+{
+    let low = lowered(alloc, text)?;
+    freed_behind(alloc, operands_at(&low), text)
+}
+
+/// Why a text stands for no instruction, by what it stands for with 0 in place of each name.
+#[tactic(auto, unfolding(crate::specs::Placing::refusal_of))]
+fn refusal_of(code: &Code) -> LineError
+    ensures { result ≡ spec.refusal_of code.now }
+{
+    match code {
+        Code::Nothing => LineError::NotCode,
+        Code::Unsized => LineError::SizeNeeded,
+        _ => LineError::UnknownName,
+    }
+}
+
+/// Why a text stands for no instruction: whether it has an unknown name.
+pub(crate) fn unknown_in(
+    alloc: Global,
+    bits: Bits,
+    base: u64,
+    text: &[u8],
+) -> Result<LineError, AllocError>
+    ensures { IfOk result (λ why. spec.IsUnknown bits base text.now why) }
+{
+    let other = freed_text(alloc, text)?;
+    let code = placed_code(alloc, bits, base, text, &other)?;
+    Ok(refusal_of(&code))
 }

@@ -3,13 +3,16 @@
 ghost use Rattle.std.specs.Prelude.{◌≡◌, ◌<◌, IfOk, MatchOption, MatchResult, length};
 ghost use Rattle.code_assembler.specs.Finished.{label_address};
 ghost use Rattle.assembly_text.specs.Placing.{view_of};
+ghost use Rattle.assembly_text.specs.declared.text_error.AssembleError.TheVariants.{Unfinished};
+ghost use Rattle.assembly_text.specs.Origins.{place_by_cause};
 ghost use Rattle.assembly_text.specs.Rounds as spec;
 
 use crate::labels::labels_in;
+use crate::origins::{Built, place_of};
 use crate::round::Round;
 use crate::text::named_routine;
 use crate::text_error::AssembleError;
-use code_assembler::{Assembled, Assembler};
+use code_assembler::{Assembled, Assembler, FinishError};
 use std::alloc::{AllocError, Global};
 use x86_values::Bits;
 
@@ -44,28 +47,57 @@ fn places_of(
     Ok(places)
 }
 
+/// Why a routine has no bytes, with the place of it in the text.
+fn unfinished(built: &Built, why: FinishError) -> AssembleError
+    ensures { result ≡ (let place = place_by_cause built.now.origins.lines.items (length built.now.routine.items) why in Unfinished place.0 place.1 why) }
+{
+    let (number, column) = place_of(built, why);
+    AssembleError::Unfinished {
+        number,
+        column,
+        why,
+    }
+}
+
+/// The bytes of a routine, with slots or without.
+fn finish_by(
+    alloc: Global,
+    slots: bool,
+    routine: &Assembler,
+    base: u64,
+) -> Result<Assembled, FinishError>
+    ensures { spec.IsFinishedBy slots routine.now base result }
+{
+    if slots {
+        routine.finish(alloc, base)
+    } else {
+        routine.finish_near(alloc, base)
+    }
+}
+
 /// What a round gives, with the addresses of the labels unless it is the last.
 fn one_round(
     alloc: Global,
+    slots: bool,
     bits: Bits,
     round: &Round<'_, '_, '_>,
 ) -> Result<(Assembled, Option<Vec<u64>>), AssembleError>
     ensures { MatchResult result
-        (λ done. MatchOption done.1 (spec.IsLastRound bits (view_of round.now) done.0) (λ next. spec.IsOtherRound bits (view_of round.now) done.0 next.items))
-        (λ why. spec.IsNoRound bits (view_of round.now) why) }
+        (λ done. MatchOption done.1 (spec.IsLastRound slots bits (view_of round.now) done.0) (λ next. spec.IsOtherRound slots bits (view_of round.now) done.0 next.items))
+        (λ why. spec.IsNoRound slots bits (view_of round.now) why) }
 {
-    let (routine, trace) = match named_routine(alloc, bits, round) {
+    let built = match named_routine(alloc, bits, round) {
         Ok(built) => built,
         Err(why) => return Err(why),
     };
-    let made = match routine.finish(alloc, round.base) {
+    let made = match finish_by(alloc, slots, &built.routine, round.base) {
         Ok(made) => made,
-        Err(why) => return Err(AssembleError::Unfinished { why }),
+        Err(why) => return Err(unfinished(&built, why)),
     };
-    if !trace.placed {
+    if !built.trace.placed {
         return Ok((made, None));
     }
-    let next = match places_of(alloc, &routine, round.base, &made) {
+    let next = match places_of(alloc, &built.routine, round.base, &made) {
         Ok(next) => next,
         Err(_) => return Err(AssembleError::NoMemory),
     };
@@ -73,6 +105,68 @@ fn one_round(
         return Ok((made, None));
     }
     Ok((made, Some(next)))
+}
+
+/// The rules by which a text is assembled.
+#[derive(Clone, Copy, PartialEq, Eq, Debug)]
+pub struct Rules<'a> {
+    /// The caller's names with their numbers, as in [`assemble_code_with`].
+    pub names: &'a [u8],
+    /// Whether a branch in 64-bit mode may go through a slot of eight bytes behind the code, if its target is out of reach.
+    pub slots: bool,
+}
+
+/// Returns the bytes of a routine as text, like [`assemble_code_with`], by rules from the caller.
+///
+/// Where the rules allow no slots there is nothing behind the code and the data, and a branch to an address that is out of reach is refused.
+///
+/// ```
+/// let rules = Rules {
+///     names: b"start = 0x10",
+///     slots: false,
+/// };
+/// let text = b"dec ecx\n jmp start";
+/// if let Err(why) = assemble_code_by(rt.alloc(), Bits::B64, 0x8000_000a, &rules, text) {
+///     println!(rt; "{why}")?; // line 2, column 2: instruction 1 cannot reach 0x10
+/// }
+/// ```
+///
+/// Errors: those of [`assemble_code_with`]. Without slots `Unfinished` has what [`Assembler::finish_near`](code_assembler::Assembler::finish_near) says: `TooFar`
+/// names the first branch that does not reach its target.
+pub fn assemble_code_by(
+    alloc: Global,
+    bits: Bits,
+    base: u64,
+    rules: &Rules<'_>,
+    text: &[u8],
+) -> Result<Assembled, AssembleError>
+    ensures exact { spec.IsAnswerBy rules.now.slots bits base rules.now.names.now text.now result }
+    ensures settled { IfOk result (λ a. spec.IsSettledBy rules.now.slots bits base rules.now.names.now text.now a) }
+{
+    let labels = match labels_in(alloc, text) {
+        Ok(labels) => labels,
+        Err(_) => return Err(AssembleError::NoMemory),
+    };
+    let mut places = Vec::new(alloc);
+    let mut left = MOST_ROUNDS;
+    'rounds: while left > 0 {
+        let round = Round {
+            base,
+            names: rules.names,
+            labels: &labels,
+            places: &places,
+        };
+        let (made, next) = match one_round(alloc, rules.slots, bits, &round) {
+            Ok(done) => done,
+            Err(why) => return Err(why),
+        };
+        match next {
+            None => return Ok(made),
+            Some(more) => places = more,
+        }
+        left -= 1;
+    }
+    Err(AssembleError::Unsettled)
 }
 
 /// Returns the bytes of a routine as text, like [`assemble_code`], with numbers in place of names from the caller.
@@ -88,6 +182,8 @@ fn one_round(
 /// println!(rt; "{}", hex::encode(rt.alloc(), made.bytes())?)?; // bf17000000e876010000c3
 /// ```
 ///
+/// Branches may go through slots; [`assemble_code_by`] takes rules that allow none.
+///
 /// Errors: `AtName`: the first line of `names` that is neither; then those of [`assemble_code`].
 pub fn assemble_code_with(
     alloc: Global,
@@ -99,30 +195,8 @@ pub fn assemble_code_with(
     ensures exact { spec.IsNamedAnswer bits base names.now text.now result }
     ensures settled { IfOk result (λ a. spec.IsSettled bits base names.now text.now a) }
 {
-    let labels = match labels_in(alloc, text) {
-        Ok(labels) => labels,
-        Err(_) => return Err(AssembleError::NoMemory),
-    };
-    let mut places = Vec::new(alloc);
-    let mut left = MOST_ROUNDS;
-    'rounds: while left > 0 {
-        let round = Round {
-            base,
-            names,
-            labels: &labels,
-            places: &places,
-        };
-        let (made, next) = match one_round(alloc, bits, &round) {
-            Ok(done) => done,
-            Err(why) => return Err(why),
-        };
-        match next {
-            None => return Ok(made),
-            Some(more) => places = more,
-        }
-        left -= 1;
-    }
-    Err(AssembleError::Unsettled)
+    let rules = Rules { names, slots: true };
+    assemble_code_by(alloc, bits, base, &rules, text)
 }
 
 /// Returns the bytes of a routine as text, with its first byte at the address `base`.
@@ -146,7 +220,7 @@ pub fn assemble_code_with(
 /// ```
 ///
 /// Errors: `TooManyLabels`; `AtLine` names the first line that is refused, and why; `Unfinished`: the routine has no bytes, as
-/// [`Assembler::finish`](code_assembler::Assembler::finish) says; `Unsettled`: it never gave the same addresses again in 16 rounds. `NoMemory` can replace each.
+/// [`Assembler::finish`](code_assembler::Assembler::finish) says, with the line of the item in question; `Unsettled`: it never gave the same addresses again in 16 rounds. `NoMemory` can replace each.
 pub fn assemble_code(
     alloc: Global,
     bits: Bits,

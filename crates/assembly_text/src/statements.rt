@@ -5,6 +5,7 @@ ghost use Rattle.x86_values.specs.Wrapping.{width as width_of};
 ghost use Rattle.text_parts.specs.declared.style.Style.TheVariants.{Intel};
 ghost use Rattle.text_parts.specs.Numbers.{number};
 ghost use Rattle.text_parts.specs.Registers.{register};
+ghost use Rattle.assembly_text.specs.Names.{head_text};
 ghost use Rattle.assembly_text.specs.Statements as spec;
 
 use crate::digits::last_byte;
@@ -13,7 +14,7 @@ use crate::drafts::{
     wrapped,
 };
 use crate::line::{behind, front_of};
-use crate::names::{behind_word, named_text, put_head};
+use crate::names::{behind_word, named_text};
 use arrayvec::ArrayVec;
 use intel_words::words::SizeName;
 use std::alloc::AllocError;
@@ -378,7 +379,7 @@ fn put_part(
     }
 }
 
-/// Appends the text of the printer for a front and operands.
+/// Appends the text of the printer for a front, with this head, and operands.
 #[tactic(auto, unfolding(crate::specs::Statements::full_text))]
 pub(crate) fn put_full(
     out: &mut Vec<u8>,
@@ -386,11 +387,13 @@ pub(crate) fn put_full(
     size: SizeName,
     width: Width,
     low: &[u8],
+    head: &[u8],
     s: &Statement,
 ) -> Result<(), AllocError>
+    requires { head.now ≡ head_text low.now }
     ensures { OnOk result (out.new.items ≡ out.old.items ++ spec.full_text bits size width low.now s.now) }
 {
-    put_head(out, low)?;
+    out.extend_from_slice(head)?;
     put_part(out, bits, size, width, b" ", &s.first)?;
     put_part(out, bits, size, width, b", ", &s.second)?;
     put_part(out, bits, size, width, b", ", &s.third)?;
@@ -570,7 +573,7 @@ fn has_negative(s: &Statement) -> bool
 
 /// Whether an operand is an address without a size.
 #[tactic(auto, unfolding(crate::specs::Statements::is_unsized_part))]
-fn is_unsized_part(part: &Option<Draft>) -> bool
+pub(crate) fn is_unsized_part(part: &Option<Draft>) -> bool
     ensures { result ≡ spec.is_unsized_part part.now }
 {
     match part {

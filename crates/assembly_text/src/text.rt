@@ -1,11 +1,12 @@
 //! What the lines of a text add to a routine in a round.
 
-ghost use Rattle.std.specs.Prelude.{◌≡◌, ◌⊎◌, ◌<◌, ◌≤◌, length, true, is_some, IfOk, IfErr, OnOk, MatchOption, MatchResult, Some, None};
+ghost use Rattle.std.specs.Prelude.{◌≡◌, ◌⊎◌, ◌<◌, ◌≤◌, length, true, IfOk, IfErr, OnOk, MatchOption, MatchResult, Some, None};
 ghost use Rattle.code_assembler.specs.declared.error.BuildError.TheVariants.{Memory};
 ghost use Rattle.assembly_text.specs.declared.code.Code.{Code};
 ghost use Rattle.assembly_text.specs.Constants.{bad_from};
-ghost use Rattle.assembly_text.specs.Data.{data_of};
+ghost use Rattle.assembly_text.specs.Labels.{begins_label as begins_at};
 ghost use Rattle.assembly_text.specs.Lines as lines;
+ghost use Rattle.assembly_text.specs.Origins.{IsBuilt};
 ghost use Rattle.assembly_text.specs.Placing.{view_of, zeroed as zero_view, placed as placed_in, placed_text as text_in};
 ghost use Rattle.assembly_text.specs.Rounds as rounds;
 ghost use Rattle.assembly_text.specs.Text as spec;
@@ -13,15 +14,16 @@ ghost use Rattle.assembly_text.specs.Text as spec;
 use crate::code::Code;
 use crate::constants::bad_name;
 use crate::data::{data_width, put_data};
-use crate::labels::{Labels, label_named, labels_of};
+use crate::labels::{Labels, begins_label, is_label_name, label_named};
 use crate::line::{
-    begins_name, body_column, body_of, first_line, label_of, name_at, shown, shown_column,
-    without_name,
+    body_column, body_of, code_column, code_of, first_line, label_of, name_at, shown_column,
+    trimmed, without_name,
 };
 use crate::names::{behind_word, first_word};
-use crate::numbers::{placed, resolved};
+use crate::numbers::{freed, placed, resolved};
+use crate::origins::{Built, Origin, no_origins, note};
 use crate::padding::{alignment_in, gap, is_align, padding};
-use crate::placing::{is_never_code, is_nothing, is_whole, placed_code, placed_text};
+use crate::placing::{is_nothing, is_unfit, is_whole, placed_code, placed_text, unknown_in};
 use crate::readings::free_code;
 use crate::round::{Round, Trace, no_trace, place_at, zeroed};
 use crate::text_error::{AssembleError, LineError};
@@ -52,13 +54,14 @@ fn instr_at(alloc: Global, bits: Bits, text: &[u8], at: usize) -> Result<Option<
     }
 }
 
-/// The instruction with 0x0 in place of the name at a place, if a name begins there and the instruction goes somewhere.
+/// The instruction with 0x0 in place of the name at a place, if one that may be that of a label begins there and the instruction goes somewhere.
 fn named_at(alloc: Global, bits: Bits, text: &[u8], at: usize) -> Result<Option<Instr>, AllocError>
     requires { at ≤ length text.now }
-    ensures { IfOk result (λ found. MatchOption found (lines.begins_name text.now at ≡ true → spec.IsNotNamed bits text.now at)
-        (λ i. (lines.begins_name text.now at ≡ true) × spec.IsAimedAt bits text.now at i)) }
+    ensures { IfOk result (λ found. MatchOption found (begins_at text.now at ≡ true → spec.IsNotNamed bits text.now at)
+        (λ i. (begins_at text.now at ≡ true) × spec.IsAimedAt bits text.now at i)) }
 {
-    if begins_name(text, at) {
+    let begins = begins_label(alloc, text, at)?;
+    if begins {
         instr_at(alloc, bits, text, at)
     } else {
         Ok(None)
@@ -135,19 +138,27 @@ fn push_code(
 }
 
 /// Places the label of a line.
-fn place_label(routine: &mut Assembler, labels: &Labels<'_>, line: &[u8]) -> Option<LineError>
-    ensures { MatchOption result (spec.AddsLabel (lines.lines_in labels.now.text.now) (lines.label_of line.now) routine.old routine.new)
-        (λ why. spec.RefusesLabel (lines.lines_in labels.now.text.now) (lines.label_of line.now) routine.old why) }
+fn place_label(
+    alloc: Global,
+    routine: &mut Assembler,
+    labels: &Labels<'_>,
+    line: &[u8],
+) -> Result<Option<LineError>, AllocError>
+    ensures { IfOk result (λ refused. MatchOption refused
+        (spec.AddsLabel (lines.lines_in labels.now.text.now) (lines.label_of line.now) routine.old routine.new)
+        (λ why. spec.RefusesLabel (lines.lines_in labels.now.text.now) (lines.label_of line.now) routine.old why)) }
 {
-    match label_of(line) {
-        None => None,
-        Some(name) => match label_named(routine, labels, name) {
-            None => Some(LineError::UnknownName),
-            Some(label) => match routine.place(label) {
-                Ok(()) => None,
-                Err(why) => Some(LineError::Refused { why }),
-            },
-        },
+    let name = match label_of(line) {
+        None => return Ok(None),
+        Some(name) => name,
+    };
+    let may = is_label_name(alloc, name)?;
+    if !may {
+        return Ok(Some(LineError::BadLabel));
+    }
+    match label_named(routine, labels, name) {
+        None => Ok(Some(LineError::UnknownName)),
+        Some(label) => told(routine.place(label)),
     }
 }
 
@@ -160,11 +171,45 @@ fn is_ever_data(
 ) -> Result<bool, AllocError>
     requires some { 0 < width }
     requires few { width ≤ 8 }
-    ensures { IfOk result (λ ever. is_some (data_of width (placed_in (zero_view (view_of round.now)) text.now)) ≡ ever) }
+    ensures { IfOk result (λ ever. spec.is_ever_data (view_of round.now) width text.now ≡ ever) }
 {
     let other = placed(alloc, &zeroed(round), text)?;
     let mut bytes = Vec::new(alloc);
     put_data(alloc, &mut bytes, width, &other)
+}
+
+/// Whether a text is data with 0 in place of each name.
+fn is_free_data(alloc: Global, width: usize, text: &[u8]) -> Result<bool, AllocError>
+    requires some { 0 < width }
+    requires few { width ≤ 8 }
+    ensures { IfOk result (λ free. spec.is_free_data width text.now ≡ free) }
+{
+    let other = freed(alloc, text)?;
+    let mut bytes = Vec::new(alloc);
+    put_data(alloc, &mut bytes, width, &other)
+}
+
+/// Why a text is no data.
+fn data_refusal(
+    alloc: Global,
+    round: &Round<'_, '_, '_>,
+    width: usize,
+    text: &[u8],
+) -> Result<LineError, AllocError>
+    requires some { 0 < width }
+    requires few { width ≤ 8 }
+    ensures { IfOk result (λ why. why ≡ spec.data_refusal (view_of round.now) width text.now) }
+{
+    let ever = is_ever_data(alloc, round, width, text)?;
+    if ever {
+        return Ok(LineError::DoesNotFit);
+    }
+    let free = is_free_data(alloc, width, text)?;
+    Ok(if free {
+        LineError::UnknownName
+    } else {
+        LineError::NotData
+    })
 }
 
 /// Adds data, each number of which has so many bytes.
@@ -186,12 +231,8 @@ fn add_data(
     let mut bytes = Vec::new(alloc);
     let put = put_data(alloc, &mut bytes, width, &numbers)?;
     if !put {
-        let ever = is_ever_data(alloc, round, width, text)?;
-        return Ok(Some(if ever {
-            LineError::DoesNotFit
-        } else {
-            LineError::NotData
-        }));
+        let why = data_refusal(alloc, round, width, text)?;
+        return Ok(Some(why));
     }
     *trace = Trace {
         after_data: true,
@@ -239,6 +280,22 @@ fn add_padding(
     told(routine.bytes(&bytes))
 }
 
+/// Why a text is no instruction with addresses in place of the names of labels.
+fn unfit_refusal(
+    alloc: Global,
+    bits: Bits,
+    round: &Round<'_, '_, '_>,
+    text: &[u8],
+) -> Result<LineError, AllocError>
+    ensures { IfOk result (λ why. spec.IsUnplaced bits (view_of round.now) text.now why) }
+{
+    let unfit = is_unfit(alloc, bits, round, text)?;
+    if unfit {
+        return Ok(LineError::DoesNotFit);
+    }
+    unknown_in(alloc, bits, round.base, text)
+}
+
 /// Adds what a text stands for with addresses in place of the names of labels.
 fn add_placed(
     alloc: Global,
@@ -255,14 +312,28 @@ fn add_placed(
     let bits = routine.bits();
     let code = placed_code(alloc, bits, round.base, body, placed)?;
     if is_nothing(&code) {
-        let never = is_never_code(alloc, bits, round, body)?;
-        return Ok(Some(if never {
-            LineError::NotCode
-        } else {
-            LineError::DoesNotFit
-        }));
+        let why = unfit_refusal(alloc, bits, round, body)?;
+        return Ok(Some(why));
     }
     push_code(routine, round.labels, placed, code)
+}
+
+/// Adds what a text stands for that has no names of labels.
+fn add_closed(
+    alloc: Global,
+    routine: &mut Assembler,
+    round: &Round<'_, '_, '_>,
+    body: &[u8],
+    code: Code,
+) -> Result<Option<LineError>, AllocError>
+    ensures { IfOk result (λ refused. MatchOption refused (spec.AddsCode (view_of round.now).all body.now code routine.old routine.new)
+        (λ why. spec.RefusesClosed (view_of round.now) body.now code routine.old why)) }
+{
+    if is_nothing(&code) {
+        let why = unknown_in(alloc, routine.bits(), round.base, body)?;
+        return Ok(Some(why));
+    }
+    push_code(routine, round.labels, body, code)
 }
 
 /// Adds an instruction.
@@ -285,7 +356,7 @@ fn add_code(
     }
     let placed = placed_text(alloc, round, body)?;
     if placed.as_slice() == body {
-        return push_code(routine, round.labels, body, code);
+        return add_closed(alloc, routine, round, body, code);
     }
     trace.placed = true;
     add_placed(alloc, routine, round, body, &placed)
@@ -348,24 +419,30 @@ fn add_body(
     if body.is_empty() {
         return Ok(None);
     }
+    if round.names.is_empty() {
+        return add_words(alloc, routine, round, trace, body);
+    }
     let words = resolved(alloc, round.names, body)?;
     add_words(alloc, routine, round, trace, &words)
 }
 
-/// Adds a line.
+/// Adds a line, which has this code.
 fn add_line(
     alloc: Global,
     routine: &mut Assembler,
     round: &Round<'_, '_, '_>,
     trace: &mut Trace,
     line: &[u8],
+    code: &[u8],
 ) -> Result<Option<LineError>, AllocError>
+    requires { code.now ≡ lines.code_of line.now }
     ensures { IfOk result (λ refused. MatchOption refused
         (spec.AddsLine (view_of round.now) line.now routine.old trace.old routine.new trace.new)
         (λ why. spec.RefusesLine (view_of round.now) line.now routine.old trace.old why)) }
 {
-    let line = shown(line);
-    match place_label(routine, round.labels, line) {
+    let line = trimmed(code);
+    let refused = place_label(alloc, routine, round.labels, line)?;
+    match refused {
         Some(why) => Ok(Some(why)),
         None => add_body(alloc, routine, round, trace, body_of(line)),
     }
@@ -377,6 +454,7 @@ fn column_of(line: &[u8], why: LineError) -> usize
     ensures { result ≡ spec.column_of line.now why }
 {
     match why {
+        LineError::BadLabel => shown_column(line),
         LineError::Refused {
             why: BuildError::PlacedTwice { .. },
         } => shown_column(line),
@@ -384,16 +462,13 @@ fn column_of(line: &[u8], why: LineError) -> usize
     }
 }
 
-/// The routine of the lines of a text in a round, with what its last line passes on, or why there is none.
-fn routine_of(
-    alloc: Global,
-    bits: Bits,
-    round: &Round<'_, '_, '_>,
-) -> Result<(Assembler, Trace), AssembleError>
+/// The routine of the lines of a text in a round, or why there is none.
+fn routine_of(alloc: Global, bits: Bits, round: &Round<'_, '_, '_>) -> Result<Built, AssembleError>
     requires { bad_from (view_of round.now).names 0 ≡ None }
-    ensures { MatchResult result (λ built. spec.IsRoutineOf bits (view_of round.now) built.0 built.1) (λ why. rounds.IsNoRoutine bits (view_of round.now) why) }
+    ensures { MatchResult result (λ built. IsBuilt bits (view_of round.now) built.routine built.trace built.origins.lines.items)
+        (λ why. rounds.IsNoRoutine bits (view_of round.now) why) }
 {
-    let count = labels_of(round.labels.text);
+    let count = round.labels.count;
     if count > MOST_LABELS {
         return Err(AssembleError::TooManyLabels);
     }
@@ -402,17 +477,29 @@ fn routine_of(
         Err(_) => return Err(AssembleError::NoMemory),
     };
     let mut trace = no_trace();
+    let mut origins = no_origins(alloc);
     let mut rest = round.labels.text;
     let mut number: u64 = 0;
     'lines: while !rest.is_empty() {
         let (line, behind) = first_line(rest);
+        let code = code_of(line);
         number += 1;
-        let refused = match add_line(alloc, &mut routine, round, &mut trace, line) {
+        let refused = match add_line(alloc, &mut routine, round, &mut trace, line, code) {
             Ok(refused) => refused,
             Err(_) => return Err(AssembleError::NoMemory),
         };
         match refused {
-            None => rest = behind,
+            None => {
+                let origin = Origin {
+                    end: routine.len(),
+                    number,
+                    column: code_column(code) as u64,
+                };
+                match note(&mut origins, origin) {
+                    Ok(()) => rest = behind,
+                    Err(_) => return Err(AssembleError::NoMemory),
+                }
+            }
             Some(why) => {
                 return Err(AssembleError::AtLine {
                     number,
@@ -422,16 +509,21 @@ fn routine_of(
             }
         }
     }
-    Ok((routine, trace))
+    Ok(Built {
+        routine,
+        trace,
+        origins,
+    })
 }
 
-/// The routine of a text with names in a round, with what its last line passes on, or why there is none.
+/// The routine of a text with names in a round, or why there is none.
 pub(crate) fn named_routine(
     alloc: Global,
     bits: Bits,
     round: &Round<'_, '_, '_>,
-) -> Result<(Assembler, Trace), AssembleError>
-    ensures { MatchResult result (λ built. spec.IsRoutineOf bits (view_of round.now) built.0 built.1) (λ why. rounds.IsNoRoutine bits (view_of round.now) why) }
+) -> Result<Built, AssembleError>
+    ensures { MatchResult result (λ built. IsBuilt bits (view_of round.now) built.routine built.trace built.origins.lines.items)
+        (λ why. rounds.IsNoRoutine bits (view_of round.now) why) }
 {
     let bad = match bad_name(alloc, round.names) {
         Ok(bad) => bad,

@@ -27,6 +27,9 @@ pub enum LineError {
     /// What follows `align` is no power of two from 1 to 4096.
     #[error("an alignment is a power of two from 1 to 4096")]
     BadAlignment,
+    /// The label of the line is a word of an operand, as `rax`, a mnemonic or a prefix, in any case.
+    #[error("a label is no register, no word of an operand, no mnemonic and no prefix")]
+    BadLabel,
 }
 
 /// Why a text has no bytes. The first line that is refused is reported.
@@ -50,9 +53,12 @@ pub enum AssembleError {
         column: u64,
         why: LineError,
     },
-    /// The routine has no bytes.
-    #[error("{why}")]
+    /// The routine has no bytes. The line of this number added the item that does not reach its target, or whose label has no place; if the end passes the
+    /// address space, the last item. Its column is that of what it says besides its label. Both are from 1, and 0 where no item is the cause.
+    #[error("line {number}, column {column}: {why}")]
     Unfinished {
+        number: u64,
+        column: u64,
         why: FinishError,
     },
     /// The labels did not have the addresses with which the lines were read, in none of 16 rounds.

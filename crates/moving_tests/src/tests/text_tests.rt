@@ -1,7 +1,7 @@
 //! Routines as text. The bytes are those of GNU as for the same lines.
 
 use crate::tests::compare::same;
-use assembly_text::{assemble_code, assemble_code_with};
+use assembly_text::{Rules, assemble_code, assemble_code_by, assemble_code_with};
 use std::alloc::Global;
 use std::test::Fail;
 use x86_values::Bits;
@@ -38,13 +38,13 @@ const CASES: &[Case] = &[
     (
         Bits::B32,
         0,
-        "jecxz out\nnop\n.L$x@1: jmp .L$x@1\nout: ret\nend_2:",
+        "jecxz past\nnop\n.L$x@1: jmp .L$x@1\npast: ret\nend_2:",
         "e30390ebfec3",
     ),
     // a label at the end
     (Bits::B64, 0x1000, "jmp end\nnop\nend:", "eb0190"),
     // what is read as it stands is no name
-    (Bits::B64, 0, "rax: jmp rax", "ffe0"),
+    (Bits::B64, 0, "x: jmp rax", "ffe0"),
     // other names, numbers, sums, cases and blanks
     (
         Bits::B64,
@@ -127,7 +127,7 @@ const CASES: &[Case] = &[
     (
         Bits::B64,
         0x40_1000,
-        "align 8\nret\nALIGN 16 ; up\nloop:\n ret\n db 1\n align 4\n align 8\nend: dd end",
+        "align 8\nret\nALIGN 16 ; up\nagain:\n ret\n db 1\n align 4\n align 8\nend: dd end",
         "c3660f1f840000000000660f1f440000c30100000000000018104000",
     ),
     (
@@ -160,6 +160,106 @@ const CASES: &[Case] = &[
         " here:\t mov rax+1, rbx",
         "line 1, column 9: no instruction has this text",
     ),
+    // unknown names in sums, in addresses and in data
+    (
+        Bits::B64,
+        0x40_1000,
+        "nop\nx: mov eax, foo+8",
+        "line 2, column 4: no line has a label of this name",
+    ),
+    (
+        Bits::B64,
+        0x40_1000,
+        "mov eax, [rbx+x-foo]\nx:",
+        "line 1, column 1: no line has a label of this name",
+    ),
+    (
+        Bits::B64,
+        0x40_1000,
+        "x: dd 1, x-foo",
+        "line 1, column 4: no line has a label of this name",
+    ),
+    (
+        Bits::B64,
+        0x40_1000,
+        "db 'foo', 1, foo+bar",
+        "line 1, column 1: no line has a label of this name",
+    ),
+    (
+        Bits::B64,
+        0x40_1000,
+        "frob foo+8",
+        "line 1, column 1: no instruction has this text",
+    ),
+    (
+        Bits::B64,
+        0x40_1000,
+        "mov eax, foo bar",
+        "line 1, column 1: no instruction has this text",
+    ),
+    (
+        Bits::B64,
+        0x40_1000,
+        "inc [foo+8]",
+        "line 1, column 1: the address needs a size",
+    ),
+    (
+        Bits::B64,
+        0x40_1000,
+        "db foo, 256",
+        "line 1, column 1: no number of this size, and no string",
+    ),
+    // operands in the other order, the shorter of two
+    (
+        Bits::B64,
+        0,
+        "test eax, [rbx]\nTEST R8B,[rbp+4]\ntest [rbx], eax\nxchg eax, [rbx]\nlock xchg r9, [rsp]\nXCHG EAX,EDX\nXchg r8, rax\nXCHG rax,R8",
+        "85034484450485038703f04c870c249249904990",
+    ),
+    (
+        Bits::B64,
+        0x40_1000,
+        "test eax, [rel x]\nx: ret",
+        "850500000000c3",
+    ),
+    // operands that are left out
+    (
+        Bits::B64,
+        0,
+        "imul eax, 5\nimul rcx, -300\nimul rax, rbx\nimul dx, 7\nshl eax\nsar qword ptr [rax]\nrol cl\nSAL r8d",
+        "6bc0054869c9d4feffff480fafc3666bd207d1e048d138d0c141d1e0",
+    ),
+    (
+        Bits::B32,
+        0,
+        "aam\naad\npush [eax]\npop [ebx+4]\ncall [ecx]\njmp [edx*4]",
+        "d40ad50aff308f4304ff11ff249500000000",
+    ),
+    (
+        Bits::B64,
+        0,
+        "push [rax]\npop [rbx+8]\ncall [rcx]",
+        "ff308f4308ff11",
+    ),
+    // registers of the stack, with and without brackets
+    (
+        Bits::B64,
+        0,
+        "fld st(1)\nfadd st(0), st(1)\nFADD ST, ST(2)\nfadd st(3)\nfmul st(4), st\nfsub\nfsubp\nfdivrp st(2)\nfdivp st(5), st\nfcom\nfcomp st(6)\nfucom\nfxch\nfxch st(7)",
+        "d9c1d8c1d8c2d8c3dcccdee9dee9def2defdd8d1d8dedde1d9c9d9cf",
+    ),
+    (
+        Bits::B64,
+        0,
+        "fucomi\nfcomip st(1)\nfucomip st, st(2)\nfcmovnbe st, st(3)\nfstp st\nfld st(7)",
+        "dbe9dff1dfeadbd3ddd8d9c7",
+    ),
+    (
+        Bits::B64,
+        0,
+        "fld st(8)",
+        "line 1, column 1: no instruction has this text",
+    ),
     // refusals, the first line first
     (
         Bits::B64,
@@ -179,11 +279,51 @@ const CASES: &[Case] = &[
         "a: nop\nb:\na: ret",
         "line 3, column 1: label 0 has a place already",
     ),
+    // a label is no register, no mnemonic by any of its names, and no prefix
+    (
+        Bits::B64,
+        0,
+        "nop\n  Rax: nop",
+        "line 2, column 3: a label is no register, no word of an operand, no mnemonic and no prefix",
+    ),
+    (
+        Bits::B64,
+        0,
+        "jNAE: nop",
+        "line 1, column 1: a label is no register, no word of an operand, no mnemonic and no prefix",
+    ),
+    (
+        Bits::B32,
+        0,
+        " lock: jecxz lock",
+        "line 1, column 2: a label is no register, no word of an operand, no mnemonic and no prefix",
+    ),
+    (
+        Bits::B32,
+        0,
+        "jump: setup: jecxz jump",
+        "line 1, column 7: no instruction has this text",
+    ),
+    (Bits::B32, 0, "setup: jecxz setup", "e3fe"),
     (
         Bits::B16,
         0xffff,
         "nop\nnop",
-        "end 0x10001 passes the address space",
+        "line 2, column 1: end 0x10001 passes the address space",
+    ),
+    // the first item out of reach, by its line: the first byte of the routine would reach it
+    (
+        Bits::B64,
+        0x8000_1000,
+        "nop\ndb 'abc'\n\nx: lea rax, [rel 0x1007]\nlea rcx, [rel 0x1007]",
+        "line 4, column 4: instruction 4 cannot reach 0x1007",
+    ),
+    // the last line with an item; the label behind it counts as a byte
+    (
+        Bits::B16,
+        0xfffc,
+        "nop\n\nx: db 1, 2, 3, 4, 5\nend: ; the end\n",
+        "line 3, column 4: end 0x10003 passes the address space",
     ),
 ];
 
@@ -241,6 +381,42 @@ fn named(alloc: Global, names: &str, text: &str) -> Result<String, Fail> {
 fn names_have_their_numbers(rt: HostRuntime) -> Result<(), Fail> {
     for (names, text, want) in NAMED_CASES {
         let found = named(rt.alloc(), names, text)?;
+        same(&rt, text, &found.as_str(), want);
+    }
+    Ok(())
+}
+
+/// A text at 0x8000_0000 with the name of the address 5, which only the first byte reaches; and its bytes without slots, or why there are none.
+const NEAR_CASES: &[(&str, &str)] = &[
+    ("jmp back\n ret", "e900000080c3"),
+    (
+        "nop\n jmp back",
+        "line 2, column 2: instruction 1 cannot reach 0x5",
+    ),
+    // the first of two; each byte of data is an item
+    (
+        "db 1, 2\nx: jrcxz x\n call back\njmp back",
+        "line 3, column 2: instruction 3 cannot reach 0x5",
+    ),
+    ("x: inc [rbx]", "line 1, column 4: the address needs a size"),
+];
+
+/// The bytes of a text without slots as hexadecimal digits, or why there are none.
+fn near(alloc: Global, text: &str) -> Result<String, Fail> {
+    let rules = Rules {
+        names: b"back = 5",
+        slots: false,
+    };
+    match assemble_code_by(alloc, Bits::B64, 0x8000_0000, &rules, text.as_bytes()) {
+        Ok(made) => Ok(hex::encode(alloc, made.bytes())?),
+        Err(why) => Ok(format!(in alloc; "{why}")?),
+    }
+}
+
+#[test]
+fn slots_are_refused(rt: HostRuntime) -> Result<(), Fail> {
+    for (text, want) in NEAR_CASES {
+        let found = near(rt.alloc(), text)?;
         same(&rt, text, &found.as_str(), want);
     }
     Ok(())

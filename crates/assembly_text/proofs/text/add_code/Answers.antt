@@ -3,7 +3,7 @@ use Rattle.std.specs.Prelude.{bytes_eq}
 use Rattle.x86_values.specs.declared.Bits.{Bits}
 use Rattle.assembly_text.specs.Placing.{view_of, placed_text}
 use Rattle.assembly_text.specs.Text.{IsCode}
-use Rattle.assembly_text.proofs.Telling.{whole_closed, same_closed, other_open, closed_told, placed_told}
+use Rattle.assembly_text.proofs.Telling.{same_closed, other_open, closed_told, whole_told, placed_told}
 use Rattle.assembly_text.proofs.text.add_code.Goals as goal
 
 pub returns-then-is_whole : goal.returns-then-is_whole
@@ -12,7 +12,7 @@ returns-then-is_whole c =
     let body = c.args.body.now in
     let code = c.in_ok-code.code in
     let is : IsCode c.args.routine.now.bits v.base body code = subst (λ (b : Bits). IsCode b v.base body code) c.bits-bits.ensures c.in_ok-code.ensures in
-    closed_told v body code _ _ c.args.trace.now (record c.args.trace.now { after_data = false }) c.push_code.result is (whole_closed v body code (sym c.is_whole.ensures ∙ c.if-is_whole.true)) refl c.push_code.ensures
+    whole_told v body code _ _ c.args.trace.now (record c.args.trace.now { after_data = false }) c.push_code.result is (sym c.is_whole.ensures ∙ c.if-is_whole.true) refl c.push_code.ensures
 
 pub returns-then-eq : goal.returns-then-eq
 returns-then-eq c =
@@ -22,7 +22,7 @@ returns-then-eq c =
     let is : IsCode c.args.routine.now.bits v.base body code = subst (λ (b : Bits). IsCode b v.base body code) c.bits-bits.ensures c.in_ok-code.ensures in
     let words = sym (c.as_slice.ensures.value ∙ c.in_ok-placed.ensures) in
     let same : bytes_eq (placed_text v body) body ≡ true = ap (λ (x : List ℕ). bytes_eq x body) words ∙ (sym c.eq.ensures ∙ c.if-eq.true) in
-    closed_told v body code _ _ c.args.trace.now (record c.args.trace.now { after_data = false }) c.push_code-then-eq.result is (same_closed v body code same) refl c.push_code-then-eq.ensures
+    closed_told v body code _ _ c.args.trace.now (record c.args.trace.now { after_data = false }) c.add_closed.result is (same_closed v body code same) refl c.add_closed.ensures
 
 pub returns : goal.returns
 returns c =

@@ -1,8 +1,10 @@
+use Rattle.std.proofs.Common.{ap, ◌∙◌}
+use Rattle.assembly_text.specs.Lines.{trimmed}
 use Rattle.assembly_text.specs.Placing.{view_of}
 use Rattle.assembly_text.proofs.Telling.{line_told}
 use Rattle.assembly_text.proofs.text.add_line.Goals as goal
 
 pub returns-in-None : goal.returns-in-None
 returns-in-None c =
-    line_told (view_of c.args.round.now) c.args.line.now c.shown-line.result.now c.body_of.result.now _ _ _ _ _ c.add_body.result
-    c.shown-line.ensures c.body_of.ensures c.in-None.ensures c.add_body.ensures
+    line_told (view_of c.args.round.now) c.args.line.now c.trimmed-line.result.now c.body_of.result.now _ _ _ _ _ c.add_body.result
+    (c.trimmed-line.ensures ∙ ap trimmed c.requires) c.body_of.ensures (rw c.in-None.is at c.in_ok-refused.ensures) c.add_body.ensures

@@ -1,4 +1,4 @@
-use Rattle.std.proofs.Common.{◌≤◌, length, arith, ap, ◌∙◌, subst, refl, Option}
+use Rattle.std.proofs.Common.{◌+◌, ◌≤◌, length, arith, ap, ◌∙◌, subst, refl, Option}
 use Rattle.std.specs.Prelude.{MatchOption}
 use Rattle.std.proofs.lemmas.Bool.Decides.{nat_tests}
 use Rattle.assembly_text.specs.declared.text_error.LineError.{LineError}
@@ -10,8 +10,10 @@ use Rattle.assembly_text.proofs.text.routine_of.Goals as goal
 
 pub lines-init : goal.lines-init
 lines-init c = record {
-  gone = gone_start c.args.bits (view_of c.args.round.now) c.args.round.now.labels.now.text.now c.in-Ok.routine c.no_trace-trace.result refl
-      (c.in-Ok.ensures.made ∙ ap (with_labels c.args.bits) c.labels_of-count.ensures) c.no_trace-trace.ensures;
+  gone = gone_start c.args.bits (view_of c.args.round.now) c.args.round.now.labels.now.text.now c.in-Ok.routine c.no_trace-trace.result
+      c.no_origins-origins.result.lines.items c.no_origins-origins.result.end refl
+      (c.in-Ok.ensures.made ∙ ap (with_labels c.args.bits) c.args.round.now.labels.now.counted) c.no_trace-trace.ensures c.no_origins-origins.ensures.lines
+      c.no_origins-origins.ensures.end;
   few = omega arith;
 }
 
@@ -24,7 +26,9 @@ lines-preserved c =
     let step : P = subst (λ (o : Option LineError). MatchOption o P Q) c.in-None.is c.in-Ok-add_line.ensures in
     record {
       gone = gone_step c.args.bits v c.lines.rest.now line c.first_line.result.1.now c.lines.number c.lines.routine c.lines.trace
-          c.add_line.new.routine c.add_line.new.trace c.lines.invariant.gone c.first_line.ensures.lines step;
+          c.lines.origins.lines.items c.lines.origins.end c.add_line.new.routine c.add_line.new.trace c.note.new.origins.lines.items c.note.new.origins.end
+          (record { end = c.len.result; number = c.lines.number + 1; column = c.code_column.result })
+          c.lines.invariant.gone c.first_line.ensures.lines step c.len.ensures refl (c.code_column.ensures c.first_line.result.0.now c.code_of-code.ensures) c.in-Ok-note.ensures.lines c.in-Ok-note.ensures.end;
       few = omega (arith, c.lines.invariant.few, c.first_line.ensures.less);
     }
 
@@ -34,11 +38,12 @@ returns-in-Some c =
     let line = c.first_line.result.0.now in
     let P = AddsLine v line c.lines.routine c.lines.trace c.add_line.new.routine c.add_line.new.trace in
     let Q : LineError → Type 0 = λ why. RefusesLine v line c.lines.routine c.lines.trace why in
-    gone_bad c.args.bits v c.lines.rest.now line c.first_line.result.1.now c.lines.number c.lines.routine c.lines.trace c.in-Some.why
-    _ c.requires c.column_of.ensures
+    gone_bad c.args.bits v c.lines.rest.now line c.first_line.result.1.now c.lines.number c.lines.routine c.lines.trace
+    c.lines.origins.lines.items c.lines.origins.end c.in-Some.why _ c.requires c.column_of.ensures
     c.lines.invariant.gone c.first_line.ensures.lines (subst (λ (o : Option LineError). MatchOption o P Q) c.in-Some.is c.in-Ok-add_line.ensures)
 
 pub returns : goal.returns
 returns c =
     let none : length c.lines.rest.now ≤ 0 = grind (arith, nat_tests, c.is_empty.ensures, c.lines-test.false) in
-    gone_end c.args.bits (view_of c.args.round.now) c.lines.rest.now c.lines.number c.lines.routine c.lines.trace c.requires c.lines.invariant.gone none
+    gone_end c.args.bits (view_of c.args.round.now) c.lines.rest.now c.lines.number c.lines.routine c.lines.trace
+    c.lines.origins.lines.items c.lines.origins.end c.requires c.lines.invariant.gone none

@@ -5,7 +5,7 @@ use Rattle.assembly_text.proofs.text.routine_of.Given as goal
 
 abbrev pub invariant-lines : goal.invariant-lines
 invariant-lines l = record {
-  gone : IsGone l.fn.bits (view_of l.round) l.rest l.number l.routine l.trace;
+  gone : IsGone l.fn.bits (view_of l.round) l.rest l.number l.routine l.trace l.origins.lines.items l.origins.end;
   few : l.number + length l.rest ≤ length l.round.labels.now.text.now;
 }
 
