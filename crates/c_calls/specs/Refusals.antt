@@ -3,7 +3,7 @@ use Rattle.std.specs.Prelude.{ℕ, ◌+◌, ℤ, pos, neg_ℤ}
 use Rattle.plain_spelling.specs.declared.NoSpelling.{NoSpelling}
 use Rattle.plain_spelling.specs.declared.NoSpelling.TheVariants as cause
 use Rattle.c_calls.specs.declared.refusal.Refusal.{Refusal}
-use Rattle.c_calls.specs.declared.refusal.Refusal.TheVariants.{Mode, Syntax, Code, Instr, Form, Room, Invalid, TooShort, Name, Memory, TooLarge, TooMany, Wraps, TooFar, Text, Register, Jump, Start, Small, Ends, Entered, Block, Region, Empty, Full, NotLive, Unseen, Overlaps, Calls, Padding, Options, NameLine, Labels, Size, Data, Unknown, Twice, Unplaced, Unfit, Alignment, Unsettled, Spelling}
+use Rattle.c_calls.specs.declared.refusal.Refusal.TheVariants.{Mode, Syntax, Code, Instr, Form, Room, Invalid, TooShort, Name, Memory, TooLarge, TooMany, Wraps, TooFar, Text, Register, Jump, Start, Small, Ends, Entered, Block, Region, Empty, Full, NotLive, Unseen, Overlaps, Calls, Padding, Options, NameLine, Labels, Size, Data, Unknown, Twice, Unplaced, Unfit, Alignment, Unsettled, Label, Spelling}
 
 -- 256 times the number of a condition, 1 to 10
 abbrev pub condition_number : NoSpelling → ℕ
@@ -61,6 +61,7 @@ refusal_number Unplaced = 39
 refusal_number Unfit = 40
 refusal_number Alignment = 41
 refusal_number Unsettled = 42
+refusal_number Label = 43
 refusal_number (Spelling why operand) = condition_number why + operand
 
 -- a refusal is told by its number below zero

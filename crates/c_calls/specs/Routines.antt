@@ -1,5 +1,5 @@
 -- What a routine as text becomes, with its labels, and what is left in the rooms.
-use Rattle.std.specs.Prelude.{◌≡◌, ℕ, ◌%◌, ◌^◌, nat_le, ◌&&◌, ℤ, pos, List, length, map, slice_index_or, unwrap_or, Option, Some, None, Result, Ok, Err, if◌then◌else◌}
+use Rattle.std.specs.Prelude.{◌≡◌, ℕ, ◌%◌, ◌^◌, nat_le, Bool, true, false, ◌&&◌, ℤ, pos, List, length, map, slice_index_or, unwrap_or, Option, Some, None, Result, Ok, Err, if◌then◌else◌}
 use Rattle.std.specs.List.{range_with_len}
 use Rattle.x86_values.specs.declared.Bits.{Bits}
 use Rattle.code_assembler.specs.declared.error.BuildError.{BuildError}
@@ -13,7 +13,7 @@ use Rattle.assembly_text.specs.declared.text_error.LineError.TheVariants as line
 use Rattle.assembly_text.specs.declared.text_error.AssembleError.{AssembleError}
 use Rattle.assembly_text.specs.declared.text_error.AssembleError.TheVariants as text_error
 use Rattle.assembly_text.specs.TextLabels.{label_lines}
-use Rattle.assembly_text.specs.Rounds.{IsNamedAnswer}
+use Rattle.assembly_text.specs.Rounds.{IsAnswerBy}
 use Rattle.c_calls.specs.declared.refusal.Refusal.{Refusal}
 use Rattle.c_calls.specs.declared.refusal.Refusal.TheVariants as why
 use Rattle.c_calls.specs.declared.flat.FlatLabel.{FlatLabel}
@@ -60,22 +60,22 @@ labels_of a text = first_labels a (label_lines text) (length (label_lines text))
 
 -- ---- the answer
 
--- a text with names became this, with these labels
-pub record IsRoutine (bits : Bits) (base : ℕ) (names text : List ℕ) (r : TextRoutine) : Type 0 where
-  pub made : IsNamedAnswer bits base names text (Ok r.made)
+-- a text with names became this, with slots or without, with these labels
+pub record IsRoutine (slots : Bool) (bits : Bits) (base : ℕ) (names text : List ℕ) (r : TextRoutine) : Type 0 where
+  pub made : IsAnswerBy slots bits base names text (Ok r.made)
   pub labels : r.labels.items ≡ labels_of r.made text
 
 -- what a text with names became, or why it became nothing
-abbrev pub IsRoutineIn : Bits → ℕ → List ℕ → List ℕ → Result TextRoutine RoutineRefusal → Type 0
-IsRoutineIn bits base names text (Ok r) = IsRoutine bits base names text r
-IsRoutineIn bits base names text (Err (NoRoutine cause)) = IsNamedAnswer bits base names text (Err cause)
-IsRoutineIn bits base names text (Err Mode) = ⊥
-IsRoutineIn bits base names text (Err Room) = ⊥
+abbrev pub IsRoutineIn : Bool → Bits → ℕ → List ℕ → List ℕ → Result TextRoutine RoutineRefusal → Type 0
+IsRoutineIn slots bits base names text (Ok r) = IsRoutine slots bits base names text r
+IsRoutineIn slots bits base names text (Err (NoRoutine cause)) = IsAnswerBy slots bits base names text (Err cause)
+IsRoutineIn slots bits base names text (Err Mode) = ⊥
+IsRoutineIn slots bits base names text (Err Room) = ⊥
 
 -- the same, where the number of the mode names one
-abbrev pub IsRoutineAnswer : Option Bits → ℕ → List ℕ → List ℕ → Result TextRoutine RoutineRefusal → Type 0
-IsRoutineAnswer None base names text answer = answer ≡ Err Mode
-IsRoutineAnswer (Some bits) base names text answer = IsRoutineIn bits base names text answer
+abbrev pub IsRoutineAnswer : Bool → Option Bits → ℕ → List ℕ → List ℕ → Result TextRoutine RoutineRefusal → Type 0
+IsRoutineAnswer slots None base names text answer = answer ≡ Err Mode
+IsRoutineAnswer slots (Some bits) base names text answer = IsRoutineIn slots bits base names text answer
 
 -- ---- what is said and left
 
@@ -102,6 +102,7 @@ line_refusal line.UnknownName = why.Unknown
 line_refusal (line.Refused cause) = build_refusal cause
 line_refusal line.DoesNotFit = why.Unfit
 line_refusal line.BadAlignment = why.Alignment
+line_refusal line.BadLabel = why.Label
 
 -- why a routine has no bytes
 abbrev pub finish_refusal : FinishError → Refusal
@@ -116,7 +117,7 @@ text_refusal text_error.NoMemory = why.Memory
 text_refusal (text_error.AtName number) = why.NameLine
 text_refusal text_error.TooManyLabels = why.Labels
 text_refusal (text_error.AtLine number column cause) = line_refusal cause
-text_refusal (text_error.Unfinished cause) = finish_refusal cause
+text_refusal (text_error.Unfinished number column cause) = finish_refusal cause
 text_refusal text_error.Unsettled = why.Unsettled
 
 -- why nothing is written
@@ -157,7 +158,7 @@ text_report text_error.NoMemory = nothing_made
 text_report (text_error.AtName number) = record nothing_made { line = number }
 text_report text_error.TooManyLabels = nothing_made
 text_report (text_error.AtLine number column cause) = record nothing_made { line = number; column = column }
-text_report (text_error.Unfinished cause) = finish_report cause
+text_report (text_error.Unfinished number column cause) = record (finish_report cause) { line = number; column = column }
 text_report text_error.Unsettled = nothing_made
 
 -- the numbers of a refusal
@@ -170,11 +171,19 @@ abbrev pub routine_report : Result TextRoutine RoutineRefusal → FlatRoutine
 routine_report (Ok r) = record nothing_made { bytes = length r.made.bytes; slots = length r.made.moved.slots; labels = length r.labels.items }
 routine_report (Err e) = refusal_report e
 
--- what the call says and leaves
-pub record IsRoutineCall (bits base : ℕ) (text names : List ℕ) (code code' : List ℕ) (labels labels' : List FlatLabel) (report : FlatRoutine) (said : ℤ) : Type 0 where
+-- what a call says and leaves, with slots or without
+pub record IsRoutineCallBy (slots : Bool) (bits base : ℕ) (text names : List ℕ) (code code' : List ℕ) (labels labels' : List FlatLabel) (report : FlatRoutine) (said : ℤ) : Type 0 where
   pub answer : Result TextRoutine RoutineRefusal
-  pub is : IsRoutineAnswer (bits_numbered bits) base names text answer
+  pub is : IsRoutineAnswer slots (bits_numbered bits) base names text answer
   pub said_is : said ≡ routine_said (routine_within (length code) (length labels) answer)
   pub code_is : code' ≡ bytes_left code (routine_within (length code) (length labels) answer)
   pub labels_are : labels' ≡ labels_left labels (routine_within (length code) (length labels) answer)
   pub report_is : report ≡ routine_report answer
+
+-- the call with slots
+abbrev pub IsRoutineCall : ℕ → ℕ → List ℕ → List ℕ → List ℕ → List ℕ → List FlatLabel → List FlatLabel → FlatRoutine → ℤ → Type 0
+IsRoutineCall = IsRoutineCallBy true
+
+-- the call without slots
+abbrev pub IsNearRoutineCall : ℕ → ℕ → List ℕ → List ℕ → List ℕ → List ℕ → List FlatLabel → List FlatLabel → FlatRoutine → ℤ → Type 0
+IsNearRoutineCall = IsRoutineCallBy false

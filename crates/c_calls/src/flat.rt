@@ -467,7 +467,7 @@ pub struct FlatRoutine {
     pub slots: u64,
     /// How many labels it has.
     pub labels: u64,
-    /// The refused line of the text or of the names, from 1.
+    /// The refused line of the text or of the names, from 1; for a routine without bytes that of the item in question.
     pub line: u64,
     /// The column of what is refused in a line of the text, from 1, in bytes.
     pub column: u64,

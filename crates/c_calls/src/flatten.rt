@@ -1,14 +1,14 @@
 //! From an instruction to the struct that crosses to C.
 
-ghost use Rattle.std.specs.Prelude.{◌≡◌, Some};
+ghost use Rattle.std.specs.Prelude.{◌≡◌, length, Some};
 ghost use Rattle.c_calls.specs.Flat as spec;
 ghost use Rattle.c_calls.specs.Back.{instr_back};
+ghost use Rattle.c_calls.specs.Numbers as numbers;
+ghost use Rattle.x86_values.specs.Registers as registers;
 
 use crate::flat::{FlatInstr, FlatOperand};
-use crate::numbers::{
-    asize_number, class_number, disp_number, lock_number, prefix_number, rep_number,
-};
-use x86_values::{Decoded, Mem, Operand, Register};
+use crate::numbers::{class_number, disp_number, prefix_number, rep_number};
+use x86_values::{Decoded, Instr, Mem, Operand, Register, Rep, width};
 
 /// An operand that is absent.
 pub(crate) const ABSENT: FlatOperand = FlatOperand {
@@ -58,60 +58,66 @@ pub(crate) fn base_number(register: Option<Register>) -> u8
     }
 }
 
-/// An address.
+/// Writes the class and the number of a register.
 #[inline(always)]
-#[tactic(auto, unfolding(crate::specs::Flat::flat_operand))]
-fn flat_memory(m: &Mem) -> FlatOperand
-    ensures { result ≡ spec.flat_operand (Operand.Mem m.now) }
+fn named_into(register: Register, class: &mut u8, number: &mut u8)
+    ensures class { class.new ≡ numbers.class_number register }
+    ensures number { number.new ≡ registers.number register }
 {
-    FlatOperand {
-        value: m.disp,
-        kind: 2,
-        reg_class: base_class(m.base),
-        reg_number: base_number(m.base),
-        index_class: base_class(m.index),
-        index_number: base_number(m.index),
-        scale: m.scale,
-        disp_bits: disp_number(m.disp_size),
-        ..ABSENT
-    }
+    *class = class_number(register);
+    *number = register.number();
 }
 
-/// Writes a register to its place in a struct.
+/// Writes a register to an absent operand.
 #[inline(always)]
 #[tactic(auto, unfolding(crate::specs::Flat::flat_operand))]
 fn register_into(register: Register, out: &mut FlatOperand)
+    requires { out.old ≡ spec.bare_operand 0 }
     ensures { out.new ≡ spec.flat_operand (Operand.Reg register) }
 {
-    *out = ABSENT;
     out.kind = 1;
-    out.reg_class = class_number(register);
-    out.reg_number = register.number();
+    named_into(register, &mut out.reg_class, &mut out.reg_number);
 }
 
-/// Writes an operand to its place in a struct.
-// Each arm writes `out`: an operand that all arms hand on is put together from its parts again.
-#[inline(never)]
+/// Writes an address to an absent operand.
+#[inline(always)]
 #[tactic(auto, unfolding(crate::specs::Flat::flat_operand))]
-fn present_into(operand: &Operand, out: &mut FlatOperand)
+fn memory_into(m: &Mem, out: &mut FlatOperand)
+    requires { out.old ≡ spec.bare_operand 0 }
+    ensures { out.new ≡ spec.flat_operand (Operand.Mem m.now) }
+{
+    out.kind = 2;
+    out.value = m.disp;
+    if let Some(base) = m.base {
+        named_into(base, &mut out.reg_class, &mut out.reg_number);
+    }
+    if let Some(index) = m.index {
+        named_into(index, &mut out.index_class, &mut out.index_number);
+    }
+    out.scale = m.scale;
+    out.disp_bits = disp_number(m.disp_size);
+}
+
+/// Writes an operand to an absent one.
+#[inline(always)]
+#[tactic(auto, unfolding(crate::specs::Flat::flat_operand))]
+fn operand_into(operand: &Operand, out: &mut FlatOperand)
+    requires { out.old ≡ spec.bare_operand 0 }
     ensures { out.new ≡ spec.flat_operand operand.now }
 {
     match operand {
-        Operand::Absent => *out = ABSENT,
+        Operand::Absent => (),
         Operand::Reg(register) => register_into(*register, out),
-        Operand::Mem(m) => *out = flat_memory(m),
+        Operand::Mem(m) => memory_into(m, out),
         Operand::Imm(value) => {
-            *out = ABSENT;
             out.kind = 3;
             out.value = *value;
         }
         Operand::Near(value) => {
-            *out = ABSENT;
             out.kind = 4;
             out.value = *value;
         }
         Operand::Far { selector, offset } => {
-            *out = ABSENT;
             out.kind = 5;
             out.selector = *selector;
             out.offset = *offset;
@@ -119,54 +125,87 @@ fn present_into(operand: &Operand, out: &mut FlatOperand)
     }
 }
 
-/// Writes an operand, if there is one, to its place in a struct. Most are absent or registers.
-#[inline(always)]
-#[tactic(auto, unfolding(crate::specs::Flat::flat_operand))]
-fn operand_into(operand: &Operand, out: &mut FlatOperand)
-    ensures { out.new ≡ spec.flat_operand operand.now }
+/// Writes two operands to absent ones.
+#[inline(never)]
+fn late_into(a: &Operand, b: &Operand, place: &mut FlatOperand, next: &mut FlatOperand)
+    requires no_place { place.old ≡ spec.bare_operand 0 }
+    requires no_next { next.old ≡ spec.bare_operand 0 }
+    ensures first { place.new ≡ spec.flat_operand a.now }
+    ensures second { next.new ≡ spec.flat_operand b.now }
 {
-    match operand {
-        Operand::Absent => *out = ABSENT,
-        Operand::Reg(register) => register_into(*register, out),
-        _ => present_into(operand, out),
-    }
+    operand_into(a, place);
+    operand_into(b, next);
 }
 
-/// Writes two operands to their places in a struct. The last two of most instructions are absent.
+/// Writes the last two operands to absent ones. Those of most instructions are absent.
 #[inline(always)]
 #[tactic(auto, unfolding(crate::specs::Flat::flat_operand))]
 fn last_into(a: &Operand, b: &Operand, place: &mut FlatOperand, next: &mut FlatOperand)
+    requires no_place { place.old ≡ spec.bare_operand 0 }
+    requires no_next { next.old ≡ spec.bare_operand 0 }
     ensures first { place.new ≡ spec.flat_operand a.now }
     ensures second { next.new ≡ spec.flat_operand b.now }
 {
     match (a, b) {
-        (Operand::Absent, Operand::Absent) => {
-            *place = ABSENT;
-            *next = ABSENT;
-        }
-        _ => {
-            present_into(a, place);
-            present_into(b, next);
-        }
+        (Operand::Absent, Operand::Absent) => (),
+        _ => late_into(a, b, place, next),
     }
 }
 
-/// Writes an instruction and its length to a struct, from which the instruction can be read back.
-#[inline(always)]
-#[tactic(auto, using(crate::proofs::ThereAndBack::instr_back_flat), unfolding(crate::specs::Flat::flat_instr))]
-pub(crate) fn flat_into(d: &Decoded, out: &mut FlatInstr)
-    ensures flat { out.new ≡ spec.flat_decoded d.now }
-    ensures back { instr_back out.new ≡ Some d.now.instr }
+/// Writes a repeat and a segment prefix.
+#[inline(never)]
+fn rare_prefixes_into(instr: &Instr, rep: &mut u8, segment: &mut u8)
+    ensures rep { rep.new ≡ numbers.rep_number instr.now.rep }
+    ensures segment { segment.new ≡ numbers.prefix_number instr.now.seg }
 {
+    *rep = rep_number(instr.rep);
+    *segment = prefix_number(instr.seg);
+}
+
+/// Writes a repeat and a segment prefix where there are none. Most instructions have none.
+#[inline(always)]
+fn prefixes_into(instr: &Instr, rep: &mut u8, segment: &mut u8)
+    requires no_rep { rep.old ≡ 0 }
+    requires no_segment { segment.old ≡ 0 }
+    ensures rep { rep.new ≡ numbers.rep_number instr.now.rep }
+    ensures segment { segment.new ≡ numbers.prefix_number instr.now.seg }
+{
+    match (instr.rep, instr.seg) {
+        (Rep::None, None) => (),
+        _ => rare_prefixes_into(instr, rep, segment),
+    }
+}
+
+/// Writes an instruction and its length to a struct.
+// The struct is made of zeros first: most of its fields stay so.
+#[inline(always)]
+#[tactic(auto, unfolding(crate::specs::Flat::flat_instr))]
+fn fields_into(d: &Decoded, out: &mut FlatInstr)
+    ensures flat { out.new ≡ spec.flat_decoded d.now }
+    ensures four { length d.now.instr.ops ≡ 4 }
+{
+    *out = NO_INSTR;
     operand_into(&d.instr.ops[0], &mut out.op0);
     operand_into(&d.instr.ops[1], &mut out.op1);
     last_into(&d.instr.ops[2], &d.instr.ops[3], &mut out.op2, &mut out.op3);
     out.code = d.instr.code.0;
     out.len = d.len;
-    out.lock = lock_number(d.instr.lock);
-    out.rep = rep_number(d.instr.rep);
-    out.segment = prefix_number(d.instr.seg);
-    out.asize = asize_number(d.instr.asize);
+    if d.instr.lock {
+        out.lock = 1;
+    }
+    prefixes_into(&d.instr, &mut out.rep, &mut out.segment);
+    if let Some(size) = d.instr.asize {
+        out.asize = width(size);
+    }
+}
+
+/// Writes an instruction and its length to a struct, from which the instruction can be read back.
+#[inline(always)]
+pub(crate) fn flat_into(d: &Decoded, out: &mut FlatInstr)
+    ensures flat { out.new ≡ spec.flat_decoded d.now }
+    ensures back { instr_back out.new ≡ Some d.now.instr }
+{
+    fields_into(d, out);
 }
 
 /// Returns the struct of an instruction and its length. The instruction can be read back from it.

@@ -4,7 +4,7 @@ ghost use Rattle.std.specs.Prelude.{◌≡◌, ◌==◌, if◌then◌else◌};
 ghost use Rattle.c_calls.specs.Numbers as spec;
 
 use text_parts::style::Style;
-use x86_values::{Bits, DispSize, Register, Rep, Segment, width};
+use x86_values::{Bits, DispSize, Register, Rep, Segment};
 
 /// The mode of so many bits.
 #[tactic(auto, unfolding(crate::specs::Numbers::bits_numbered))]
@@ -16,16 +16,6 @@ pub(crate) fn bits_numbered(n: u32) -> Option<Bits>
         32 => Some(Bits::B32),
         64 => Some(Bits::B64),
         _ => None,
-    }
-}
-
-/// The number of bits of an address size, 0 without one.
-pub(crate) fn asize_number(asize: Option<Bits>) -> u8
-    ensures { result ≡ spec.asize_number asize }
-{
-    match asize {
-        None => 0,
-        Some(bits) => width(bits),
     }
 }
 
@@ -82,13 +72,6 @@ pub(crate) fn style_numbered(n: u32) -> Option<Style>
         2 => Some(Style::Masm),
         _ => None,
     }
-}
-
-/// LOCK as a number.
-pub(crate) fn lock_number(lock: bool) -> u8
-    ensures { result ≡ spec.lock_number lock }
-{
-    if lock { 1 } else { 0 }
 }
 
 /// LOCK or not, by its number.

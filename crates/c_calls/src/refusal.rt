@@ -90,6 +90,8 @@ pub(crate) enum Refusal {
     Alignment,
     /// The labels of a text have other addresses than those with which its lines are read, however often it is read.
     Unsettled,
+    /// A label is a word of an operand, a mnemonic or a prefix.
+    Label,
     /// The instruction has no plain spelling there: the condition that fails, and the operand that fails it, 0 for a condition of the whole instruction.
     Spelling { why: NoSpelling, operand: u8 },
 }
@@ -159,6 +161,7 @@ fn refusal_number(why: Refusal) -> u16
         Refusal::Unfit => 40,
         Refusal::Alignment => 41,
         Refusal::Unsettled => 42,
+        Refusal::Label => 43,
         Refusal::Spelling { why, operand } => condition_number(why) + u16::from(operand),
     }
 }

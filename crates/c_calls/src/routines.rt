@@ -9,7 +9,7 @@ use crate::buffers::write_front;
 use crate::flat::{FlatLabel, FlatRoutine};
 use crate::numbers::bits_numbered;
 use crate::refusal::{Refusal, refusal_status};
-use assembly_text::{AssembleError, LabelLine, LineError, assemble_code_with, label_lines};
+use assembly_text::{AssembleError, LabelLine, LineError, Rules, assemble_code_by, label_lines};
 use code_assembler::{Assembled, BuildError, FinishError};
 use std::alloc::{AllocError, Global};
 use x86_values::Bits;
@@ -84,6 +84,7 @@ fn line_refusal(why: LineError) -> Refusal
         LineError::Refused { why } => build_refusal(why),
         LineError::DoesNotFit => Refusal::Unfit,
         LineError::BadAlignment => Refusal::Alignment,
+        LineError::BadLabel => Refusal::Label,
     }
 }
 
@@ -108,7 +109,7 @@ fn text_refusal(why: AssembleError) -> Refusal
         AssembleError::AtName { .. } => Refusal::NameLine,
         AssembleError::TooManyLabels => Refusal::Labels,
         AssembleError::AtLine { why, .. } => line_refusal(why),
-        AssembleError::Unfinished { why } => finish_refusal(why),
+        AssembleError::Unfinished { why, .. } => finish_refusal(why),
         AssembleError::Unsettled => Refusal::Unsettled,
     }
 }
@@ -174,7 +175,15 @@ fn text_report(why: AssembleError) -> FlatRoutine
             column,
             ..NOTHING
         },
-        AssembleError::Unfinished { why } => finish_report(why),
+        AssembleError::Unfinished {
+            number,
+            column,
+            why,
+        } => FlatRoutine {
+            line: number,
+            column,
+            ..finish_report(why)
+        },
     }
 }
 
@@ -203,17 +212,17 @@ fn routine_report(answer: &Result<TextRoutine, RoutineRefusal>) -> FlatRoutine
     }
 }
 
-/// What a text with names becomes, in a mode.
+/// What a text becomes by some rules, in a mode.
 fn routine_in(
     alloc: Global,
     bits: Bits,
     base: u64,
-    names: &[u8],
+    rules: &Rules<'_>,
     text: &[u8],
 ) -> Result<TextRoutine, RoutineRefusal>
-    ensures { spec.IsRoutineIn bits base names.now text.now result }
+    ensures { spec.IsRoutineIn rules.now.slots bits base rules.now.names.now text.now result }
 {
-    match assemble_code_with(alloc, bits, base, names, text) {
+    match assemble_code_by(alloc, bits, base, rules, text) {
         Ok(made) => match labels_of(alloc, &made, text) {
             Ok(labels) => Ok(TextRoutine { made, labels }),
             Err(_) => Err(RoutineRefusal::NoRoutine(AssembleError::NoMemory)),
@@ -222,19 +231,19 @@ fn routine_in(
     }
 }
 
-/// What a text with names becomes, by the number of a mode.
+/// What a text becomes by some rules, and the number of a mode.
 fn routine_of(
     alloc: Global,
     bits: u32,
     base: u64,
-    names: &[u8],
+    rules: &Rules<'_>,
     text: &[u8],
 ) -> Result<TextRoutine, RoutineRefusal>
-    ensures { spec.IsRoutineAnswer (bits_numbered bits) base names.now text.now result }
+    ensures { spec.IsRoutineAnswer rules.now.slots (bits_numbered bits) base rules.now.names.now text.now result }
 {
     match bits_numbered(bits) {
         None => Err(RoutineRefusal::Mode),
-        Some(bits) => routine_in(alloc, bits, base, names, text),
+        Some(bits) => routine_in(alloc, bits, base, rules, text),
     }
 }
 
@@ -271,6 +280,24 @@ fn put_routine(
     }
 }
 
+/// Assembles a routine as text by some rules.
+fn assemble_by(
+    alloc: Global,
+    bits: u32,
+    base: u64,
+    rules: &Rules<'_>,
+    text: &[u8],
+    code: &mut [u8],
+    labels: &mut [FlatLabel],
+    report: &mut FlatRoutine,
+) -> i32
+    ensures { spec.IsRoutineCallBy rules.now.slots bits base text.now rules.now.names.now code.old code.new labels.old labels.new report.new result }
+{
+    let answer = routine_of(alloc, bits, base, rules, text);
+    *report = routine_report(&answer);
+    put_routine(&answer, code, labels)
+}
+
 /// Assembles a routine as text at an address, with numbers for the caller's names: its bytes and its labels with their addresses.
 pub fn assemble_code(
     alloc: Global,
@@ -284,7 +311,26 @@ pub fn assemble_code(
 ) -> i32
     ensures { spec.IsRoutineCall bits base text.now names.now code.old code.new labels.old labels.new report.new result }
 {
-    let answer = routine_of(alloc, bits, base, names, text);
-    *report = routine_report(&answer);
-    put_routine(&answer, code, labels)
+    let rules = Rules { names, slots: true };
+    assemble_by(alloc, bits, base, &rules, text, code, labels, report)
+}
+
+/// Assembles a routine as text as [`assemble_code`] does, without slots: a branch that would need one is refused.
+pub fn assemble_code_near(
+    alloc: Global,
+    bits: u32,
+    base: u64,
+    text: &[u8],
+    names: &[u8],
+    code: &mut [u8],
+    labels: &mut [FlatLabel],
+    report: &mut FlatRoutine,
+) -> i32
+    ensures { spec.IsNearRoutineCall bits base text.now names.now code.old code.new labels.old labels.new report.new result }
+{
+    let rules = Rules {
+        names,
+        slots: false,
+    };
+    assemble_by(alloc, bits, base, &rules, text, code, labels, report)
 }

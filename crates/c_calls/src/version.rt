@@ -11,7 +11,7 @@ pub fn version() -> u32
 
 /// Returns the interface number of the library for C. It rises when a struct, a number or a call changes.
 pub fn interface() -> u32
-    ensures { result ≡ 11 }
+    ensures { result ≡ 12 }
 {
-    11
+    12
 }

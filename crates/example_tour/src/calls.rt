@@ -2,7 +2,8 @@
 
 use bitflags::Flags;
 use feddurzai::assembling::{
-    Assembler, assemble, assemble_code, assemble_code_with, label_lines, read_intel,
+    Assembler, Rules, assemble, assemble_code, assemble_code_by, assemble_code_with, label_lines,
+    read_intel,
 };
 use feddurzai::decoding::{Decoder, Items, decode_in, read_items};
 use feddurzai::encoding::{encode, encoded_len};
@@ -135,6 +136,19 @@ fn assemble_named(rt: &HostRuntime) -> anyhow::Result<()> {
     let text = b"mov edi, SIZE-1\n call puts\n ret";
     let made = assemble_code_with(rt.alloc(), Bits::B64, 0x40_1000, names, text)?;
     println!(rt; "{}", hex::encode(rt.alloc(), made.bytes())?)?; // bf17000000e876010000c3
+    Ok(())
+}
+
+/// Says why a jump out of reach is refused where no slot is allowed.
+fn refuse_far(rt: &HostRuntime) -> anyhow::Result<()> {
+    let rules = Rules {
+        names: b"start = 0x10",
+        slots: false,
+    };
+    let text = b"dec ecx\n jmp start";
+    if let Err(why) = assemble_code_by(rt.alloc(), Bits::B64, 0x8000_000a, &rules, text) {
+        println!(rt; "{why}")?; // line 2, column 2: instruction 1 cannot reach 0x10
+    }
     Ok(())
 }
 
@@ -464,6 +478,7 @@ fn run_reading(rt: &HostRuntime) -> anyhow::Result<()> {
     assemble_lines(rt)?;
     assemble_table(rt)?;
     assemble_named(rt)?;
+    refuse_far(rt)?;
     find_labels(rt)?;
     assemble_jumps(rt)?;
     print_one(rt)?;

@@ -26,6 +26,7 @@ pub use Rattle.intel_reader.specs.Assembled
 pub use Rattle.code_assembler.specs.Routine
 pub use Rattle.code_assembler.specs.Built as BuiltRoutines
 pub use Rattle.code_assembler.specs.Finished as FinishedRoutines
+pub use Rattle.assembly_text.specs.Origins as AssemblyOrigins
 pub use Rattle.assembly_text.specs.Rounds as AssemblyRounds
 pub use Rattle.assembly_text.specs.Text as AssemblyTexts
 pub use Rattle.assembly_text.specs.TextLabels as AssemblyLabels

@@ -59,8 +59,8 @@ pub mod encoding {
 /// `finish` gives its bytes in the least layout.
 pub mod assembling {
     pub use assembly_text::{
-        AssembleError, LabelLine, LineError, assemble_code, assemble_code_with, label_lines,
-        laws as text_laws,
+        AssembleError, LabelLine, LineError, Rules, assemble_code, assemble_code_by,
+        assemble_code_with, label_lines, laws as text_laws,
     };
     pub use code_assembler::{Assembled, Assembler, BuildError, FinishError, Label};
     pub use intel_reader::{TextError, assemble, laws, read_intel};

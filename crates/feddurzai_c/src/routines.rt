@@ -1,6 +1,6 @@
 //! Routines as text.
 
-ghost use Rattle.c_calls.specs.Routines.{IsRoutineCall};
+ghost use Rattle.c_calls.specs.Routines.{IsNearRoutineCall, IsRoutineCall};
 
 use c_calls::flat::{FlatLabel, FlatRoutine};
 use c_calls::routines;
@@ -32,4 +32,23 @@ pub extern "C" fn feddurzai_assemble_code(
     ensures { IsRoutineCall bits base text.now names.now code.old code.new labels.old labels.new report.new result }
 {
     routines::assemble_code(alloc, bits, base, text, names, code, labels, report)
+}
+
+/// Assembles a routine as text as [`feddurzai_assemble_code`] does, without slots: in 64-bit mode a branch to an address that is out of reach is refused.
+///
+/// Refusals: those of [`feddurzai_assemble_code`]. An instruction that does not reach its target is then also the first branch that would go through a slot.
+#[unsafe(no_mangle)]
+pub extern "C" fn feddurzai_assemble_code_near(
+    alloc: Global,
+    bits: u32,
+    base: u64,
+    text: &[u8],
+    names: &[u8],
+    code: &mut [u8],
+    labels: &mut [FlatLabel],
+    report: &mut FlatRoutine,
+) -> i32
+    ensures { IsNearRoutineCall bits base text.now names.now code.old code.new labels.old labels.new report.new result }
+{
+    routines::assemble_code_near(alloc, bits, base, text, names, code, labels, report)
 }

@@ -15,7 +15,7 @@ pub extern "C" fn feddurzai_version() -> u32
 /// Returns the number of the interface. It rises when a struct, a number or a call of it changes.
 #[unsafe(no_mangle)]
 pub extern "C" fn feddurzai_interface() -> u32
-    ensures { result ≡ 11 }
+    ensures { result ≡ 12 }
 {
     version::interface()
 }

@@ -3,7 +3,7 @@
 use crate::c_tests::compare::{are, gave, wrote};
 use crate::c_tests::empty::{NO_LABEL, NO_ROUTINE};
 use c_calls::flat::{FlatLabel, FlatRoutine};
-use c_calls::routines::assemble_code;
+use c_calls::routines::{assemble_code, assemble_code_near};
 use std::process::Abort;
 
 /// That a label has this address, place, length of its name, line, and flag.
@@ -72,6 +72,7 @@ const REFUSED: &[Refused] = &[
     (b"db 256", -36, 1, 1),
     (b"jmp there", -37, 1, 1),
     (b"x: nop\n x: nop", -38, 2, 2),
+    (b"nop\n jz: nop", -43, 2, 2),
 ];
 
 #[test]
@@ -99,4 +100,68 @@ fn a_refused_line_is_named(rt: HostRuntime) {
         );
         wrote(&rt, "no bytes", answer, &code, *want, &[0xaa; 3]);
     }
+}
+
+// Behind three items an operand out of reach, which the first byte would reach; and two bytes at the last address.
+#[test]
+fn an_item_is_named_by_its_line(rt: HostRuntime) {
+    let mut report = NO_ROUTINE;
+    let text = b"nop\n db 1, 2\nx: lea rax, [rel 0x1007]";
+    let answer = assemble_code(
+        rt.alloc(),
+        64,
+        0x8000_1000,
+        text,
+        b"",
+        &mut [],
+        &mut [],
+        &mut report,
+    );
+    let far = [0, 0, 0, 3, 4, 3, 0x1007];
+    is_report(&rt, "an operand out of reach", answer, &report, -14, &far);
+    let answer = assemble_code(
+        rt.alloc(),
+        64,
+        u64::MAX,
+        b"nop\n nop",
+        b"",
+        &mut [],
+        &mut [],
+        &mut report,
+    );
+    is_report(&rt, "the end", answer, &report, -13, &[0, 0, 0, 2, 2, 0, 1]);
+}
+
+// A jump whose target is in reach of the first byte, and not of its own place.
+#[test]
+fn a_slot_is_refused(rt: HostRuntime) {
+    let mut code = [0xaa; 16];
+    let mut report = NO_ROUTINE;
+    let text = b"nop\n jmp back";
+    let answer = assemble_code(
+        rt.alloc(),
+        64,
+        0x8000_0000,
+        text,
+        b"back = 5",
+        &mut code,
+        &mut [],
+        &mut report,
+    );
+    is_report(&rt, "a slot", answer, &report, 0, &[16, 1, 0, 0, 0, 0, 0]);
+    let want = b"\x90\xff\x25\x01\0\0\0\xcc\x05\0\0\0\0\0\0\0";
+    wrote(&rt, "the bytes", answer, &code, 0, want);
+    let answer = assemble_code_near(
+        rt.alloc(),
+        64,
+        0x8000_0000,
+        text,
+        b"back = 5",
+        &mut code,
+        &mut [],
+        &mut report,
+    );
+    let far = [0, 0, 0, 2, 2, 1, 5];
+    is_report(&rt, "no slot", answer, &report, -14, &far);
+    wrote(&rt, "no bytes", answer, &code, -14, want);
 }

@@ -76,5 +76,5 @@ fn a_far_call_is_written(rt: HostRuntime) {
 #[test]
 fn the_version_is_told(rt: HostRuntime) {
     let found = [version() as u64, interface() as u64];
-    are(&rt, "version and interface", &found, &[0x00_02_00, 11]);
+    are(&rt, "version and interface", &found, &[0x00_02_00, 12]);
 }
