@@ -24,9 +24,9 @@
  *
  * Memory: feddurzai_move, feddurzai_move_outside, feddurzai_move_unlisted, feddurzai_move_blocks, feddurzai_step,
  * feddurzai_step_call, feddurzai_flow, feddurzai_flow_from, feddurzai_flow_unlisted, feddurzai_look, feddurzai_format,
- * feddurzai_format_code, feddurzai_assemble_code and all feddurzai_detour functions call malloc, realloc and free, and free
- * all that they allocate before they return. All other functions allocate nothing and may be called from a signal handler
- * or from a hook of malloc.
+ * feddurzai_format_code, feddurzai_assemble_code, feddurzai_assemble_code_near and all feddurzai_detour functions call
+ * malloc, realloc and free, and free all that they allocate before they return. All other functions allocate nothing and
+ * may be called from a signal handler or from a hook of malloc.
  *
  * The header is C99 and C++. Numbers are in the machine's byte order. Lengths and sizes are in bytes. "SDM" is the
  * Intel 64 and IA-32 Architectures Software Developer's Manual; sections are of its volume 2 if no volume is named. The
@@ -45,7 +45,7 @@ extern "C" {
 /* ---- versions ---------------------------------------------------------------------------------------------- */
 
 /* The interface that this header declares. It rises when a struct, a number or a function changes. */
-#define FEDDURZAI_INTERFACE 11
+#define FEDDURZAI_INTERFACE 12
 
 /*
  * Returns the interface of the linked library. If it is not FEDDURZAI_INTERFACE, the library does not match this
@@ -64,10 +64,11 @@ uint32_t feddurzai_version(void);
 /*
  * Statuses. A function that returns int32_t returns 0 or more on success and one of these on refusal.
  *
- * After a refusal the function has written nothing, with one exception: feddurzai_assemble_code, feddurzai_move,
- * feddurzai_move_outside, feddurzai_move_unlisted, feddurzai_move_blocks, feddurzai_step, feddurzai_step_call,
- * feddurzai_step_unlisted, feddurzai_detour, feddurzai_detour_unlisted, feddurzai_detour_with, feddurzai_detour_endbr and
- * feddurzai_detour_padding always write their report, unless they return FEDDURZAI_NULL.
+ * After a refusal the function has written nothing, with one exception: feddurzai_assemble_code,
+ * feddurzai_assemble_code_near, feddurzai_move, feddurzai_move_outside, feddurzai_move_unlisted, feddurzai_move_blocks,
+ * feddurzai_step, feddurzai_step_call, feddurzai_step_unlisted, feddurzai_detour, feddurzai_detour_unlisted,
+ * feddurzai_detour_with, feddurzai_detour_endbr and feddurzai_detour_padding always write their report, unless they return
+ * FEDDURZAI_NULL.
  *
  * If several refusals apply, the function returns the first in the order of its comment. FEDDURZAI_NULL precedes all
  * others. Every function that takes a pointer can return it, so the comments do not repeat it.
@@ -116,7 +117,8 @@ enum {
     FEDDURZAI_UNPLACED = -39,       /* a label that is used follows the last of FEDDURZAI_MAX_MOVED instructions and bytes */
     FEDDURZAI_UNFIT = -40,          /* the address of a label does not fit where it stands */
     FEDDURZAI_BAD_ALIGNMENT = -41,  /* an alignment is no power of two from 1 to 4096 */
-    FEDDURZAI_UNSETTLED = -42       /* the addresses of the labels did not settle in 16 rounds (docs/assembler.md) */
+    FEDDURZAI_UNSETTLED = -42,      /* the addresses of the labels did not settle in 16 rounds (docs/assembler.md) */
+    FEDDURZAI_BAD_LABEL = -43       /* a label is a register or another word of an operand, a mnemonic or a prefix */
     /* -256 and below: the instruction has no encoding, see FEDDURZAI_CAUSE */
 };
 
@@ -631,20 +633,22 @@ typedef struct feddurzai_label {
     uint8_t has_address;    /* 1; 0 only for a label behind the last of FEDDURZAI_MAX_MOVED instructions and bytes of data */
 } feddurzai_label;
 
-/* What feddurzai_assemble_code reports. Fields that do not apply are 0. */
+/* What feddurzai_assemble_code and feddurzai_assemble_code_near report. Fields that do not apply are 0. */
 typedef struct feddurzai_routine_report {
     uint64_t bytes;         /* the size of the routine, with its slots */
     uint64_t slots;         /* the number of slots of 8 bytes at its end: of addresses that no branch reaches */
     uint64_t labels;        /* the number of its labels */
-    uint64_t line;          /* after a refusal: the refused line of the text (FEDDURZAI_BAD_NAMES: of the names), from 1; 0 if
-                               no line is the cause */
+    uint64_t line;          /* after a refusal: the refused line of the text (FEDDURZAI_BAD_NAMES: of the names), from 1; for
+                               _WRAPS the last line with an instruction or data; 0 if no line is the cause */
     uint64_t column;        /* the column of what is refused in a line of the text, from 1, counted in bytes */
     uint64_t at;            /* _TOO_FAR, _UNPLACED: the number of the instruction, from 0; each byte of data counts as one */
     uint64_t address;       /* _TOO_FAR: its target; _WRAPS: the end that is past the address space */
 } feddurzai_routine_report;
 
 /*
- * Assembles a routine: lines of instructions, labels and data. No branch is longer than it has to be.
+ * Assembles a routine: lines of instructions, labels and data. No branch is longer than it has to be. In 64-bit mode a
+ * branch whose target is out of reach goes through a slot, 8 bytes behind the code with the target: report.slots counts
+ * them.
  *
  *  - bits, base: the mode, and the address of the first byte.
  *  - text, len: the lines, each ended by a line feed; the last may lack it. A line has, each optional, a label and a colon;
@@ -659,7 +663,7 @@ typedef struct feddurzai_routine_report {
  *
  * Returns 0, or FEDDURZAI_BAD_MODE; _BAD_NAMES for the first such line of the names; _TOO_MANY_LABELS; what is wrong with the
  * first refused line of the text: _NO_TEXT (it is not the text of an instruction), _NO_SIZE, _BAD_DATA, _UNKNOWN, _TWICE,
- * _UNFIT, _BAD_ALIGNMENT, _TOO_MANY (instructions and bytes of data), or a cause (see FEDDURZAI_CAUSE; its operand is always
+ * _UNFIT, _BAD_ALIGNMENT, _BAD_LABEL, _TOO_MANY (instructions and bytes of data), or a cause (see FEDDURZAI_CAUSE; its operand is always
  * 0); then _UNPLACED, _WRAPS, _TOO_FAR; then _UNSETTLED; and _NO_ROOM. _NO_MEMORY may replace any of those after _BAD_MODE. The call allocates memory.
  *
  *     const char *loop = "again: add eax, ecx\n dec ecx\n jne again ; until it is 0\n ret";
@@ -667,6 +671,19 @@ typedef struct feddurzai_routine_report {
  *     // said is 0, routine.bytes is 7: 01 c8 ff c9 75 fa c3. labels[0].address is 0x401000, and its name has 5 bytes
  */
 int32_t feddurzai_assemble_code(uint32_t bits, uint64_t base, const char *text, size_t len, const char *names,
+    size_t names_len, uint8_t *code, size_t room, feddurzai_label *labels, size_t label_room,
+    feddurzai_routine_report *report);
+
+/*
+ * Assembles a routine as feddurzai_assemble_code does, without slots: the first branch that would go through one is
+ * refused with FEDDURZAI_TOO_FAR, its line and its target. So nothing follows the code and the data.
+ *
+ *     const char *back = "dec ecx\n jmp start", *start = "start = 0x10";
+ *     said = feddurzai_assemble_code_near(64, 0x8000000a, back, strlen(back), start, strlen(start), bytes, sizeof bytes,
+ *         labels, 1, &routine);
+ *     // said is FEDDURZAI_TOO_FAR, routine.line is 2, routine.column is 2, routine.address is 0x10
+ */
+int32_t feddurzai_assemble_code_near(uint32_t bits, uint64_t base, const char *text, size_t len, const char *names,
     size_t names_len, uint8_t *code, size_t room, feddurzai_label *labels, size_t label_room,
     feddurzai_routine_report *report);
 
@@ -2011,6 +2028,17 @@ static inline int32_t feddurzai_checked_assemble_code(uint32_t bits, uint64_t ba
     return feddurzai_assemble_code(bits, base, text, len, names, names_len, code, room, labels, label_room, report);
 }
 
+static inline int32_t feddurzai_checked_assemble_code_near(uint32_t bits, uint64_t base, const char *text, size_t len,
+    const char *names, size_t names_len, uint8_t *code, size_t room, feddurzai_label *labels, size_t label_room,
+    feddurzai_routine_report *report)
+{
+    if (feddurzai_is_null(text, len) || feddurzai_is_null(names, names_len) || feddurzai_is_null(code, room))
+        return FEDDURZAI_NULL;
+    if (feddurzai_is_null(labels, label_room) || report == NULL)
+        return FEDDURZAI_NULL;
+    return feddurzai_assemble_code_near(bits, base, text, len, names, names_len, code, room, labels, label_room, report);
+}
+
 static inline int32_t feddurzai_checked_jump(uint32_t bits, uint64_t at, uint64_t target, uint32_t form, uint8_t *out,
     size_t room)
 {
@@ -2313,6 +2341,7 @@ static inline int32_t feddurzai_checked_detour_padding(uint32_t bits, uint64_t i
 #define feddurzai_assemble feddurzai_checked_assemble
 #define feddurzai_read_intel feddurzai_checked_read_intel
 #define feddurzai_assemble_code feddurzai_checked_assemble_code
+#define feddurzai_assemble_code_near feddurzai_checked_assemble_code_near
 #define feddurzai_jump feddurzai_checked_jump
 #define feddurzai_register_text feddurzai_checked_register_text
 #define feddurzai_segment_text feddurzai_checked_segment_text

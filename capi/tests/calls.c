@@ -688,10 +688,10 @@ static void check_options(void)
         {FEDDURZAI_MASM, FEDDURZAI_GNU_OPTIONS, "\x66\x2e\x0f\x1f\x84\0\0\0\0\0", 10, 0, "", "cs nop WORD PTR [rax+rax*1+0x0]"},
         {FEDDURZAI_ATT, FEDDURZAI_GNU_ATT_OPTIONS, "\x48\x8b\x43\x10", 4, 0, "", "mov    0x10(%rbx),%rax"},
         {FEDDURZAI_ATT, FEDDURZAI_GNU_ATT_OPTIONS, "\xc1\xe8\x1f", 3, 0, "", "shr    $0x1f,%eax"},
-        {FEDDURZAI_INTEL, {0, 0, 0, 0, 0, 0, 0, FEDDURZAI_SYMBOL_INSTEAD}, "\xe8\xfb\x0f\0\0", 5, 1, "puts@plt", "call puts@plt+0x1"},
-        {FEDDURZAI_INTEL, {FEDDURZAI_UPPER, 0, 0, 0, 0, 0, 0, 0}, "\x48\x89\x5c\x24\x10", 5, 0, "", "MOV QWORD [RSP+0x10], RBX"},
-        {FEDDURZAI_INTEL, {0, FEDDURZAI_DECIMAL, FEDDURZAI_SIGNED, 0, 0, 0, 0, 0}, "\x83\xc0\x80", 3, 0, "", "add eax, -128"},
-        {FEDDURZAI_INTEL, {0, FEDDURZAI_HEX_SUFFIX, 0, 0, FEDDURZAI_SIZE_IF_NEEDED, 0, 0, 0}, "\x48\x89\x5c\x24\x1a", 5, 0, "",
+        {FEDDURZAI_INTEL, {0, 0, 0, 0, 0, 0, 0, FEDDURZAI_SYMBOL_INSTEAD, 0, 0, 0, 0, 0}, "\xe8\xfb\x0f\0\0", 5, 1, "puts@plt", "call puts@plt+0x1"},
+        {FEDDURZAI_INTEL, {FEDDURZAI_UPPER, 0, 0, 0, 0, 0, 0, 0, 0, 0, 0, 0, 0}, "\x48\x89\x5c\x24\x10", 5, 0, "", "MOV QWORD [RSP+0x10], RBX"},
+        {FEDDURZAI_INTEL, {0, FEDDURZAI_DECIMAL, FEDDURZAI_SIGNED, 0, 0, 0, 0, 0, 0, 0, 0, 0, 0}, "\x83\xc0\x80", 3, 0, "", "add eax, -128"},
+        {FEDDURZAI_INTEL, {0, FEDDURZAI_HEX_SUFFIX, 0, 0, FEDDURZAI_SIZE_IF_NEEDED, 0, 0, 0, 0, 0, 0, 0, 0}, "\x48\x89\x5c\x24\x1a", 5, 0, "",
             "mov [rsp+1Ah], rbx"},
     };
     feddurzai_instr i;
@@ -791,7 +791,8 @@ static void check_routines(void)
         {64, 0, "nop\nalign 3", "", FEDDURZAI_BAD_ALIGNMENT, "", 2, 1},
         {64, 0x100000000, "x: mov eax, x", "", FEDDURZAI_UNFIT, "", 1, 4},
         {64, 0, "nop", "a = 1\nrax = 2", FEDDURZAI_BAD_NAMES, "", 2, 0},
-        {64, UINT64_MAX, "nop\nnop", "", FEDDURZAI_WRAPS, "", 0, 0},
+        {64, 0, "nop\n jz: nop", "", FEDDURZAI_BAD_LABEL, "", 2, 2},
+        {64, UINT64_MAX, "nop\nnop", "", FEDDURZAI_WRAPS, "", 2, 1},
         {17, 0, "nop", "1", FEDDURZAI_BAD_MODE, "", 0, 0},
     };
     static const char loop[] = "start: dec ecx\n  jne start\nend:";
@@ -834,6 +835,20 @@ static void check_routines(void)
     CHECK(feddurzai_assemble_code(64, 0x1000, "jmp far", 7, "far = 0x7fff00000000", 20, NULL, 0, NULL, 0, r), FEDDURZAI_NO_TEXT);
     CHECK(feddurzai_assemble_code(64, 0x80000000, "nop\njmp far", 11, "far = 5", 7, NULL, 0, NULL, 0, r), FEDDURZAI_NO_ROOM);
     CHECK(r->bytes << 8 | r->slots, 16 << 8 | 1);
+    /* without slots such a branch is refused, and everything else is the same */
+    memset(r, 0xaa, sizeof *r);
+    CHECK(feddurzai_assemble_code_near(64, 0x80000000, "nop\njmp far", 11, "far = 5", 7, code, 4, labels, 2, r), FEDDURZAI_TOO_FAR);
+    CHECK(r->bytes | r->slots | r->labels, 0);
+    CHECK(r->line << 16 | r->column << 8 | r->at, 2 << 16 | 1 << 8 | 1);
+    CHECK(r->address, 5);
+    CHECK(feddurzai_assemble_code_near(64, 0x80000000, "jmp far\nx:", 10, "far = 5", 7, code, 4, labels, 2, r), FEDDURZAI_NO_ROOM);
+    CHECK(r->bytes << 16 | r->slots << 8 | r->labels, 5 << 16 | 1);
+    CHECK(memcmp(code, "\xff\xc9\x75\xfc", 4), 0);
+    CHECK(feddurzai_assemble_code_near(64, 0x1000, loop, sizeof loop - 1, NULL, 0, code, 4, labels, 2, r), 0);
+    CHECK(memcmp(code, "\xff\xc9\x75\xfc", 4), 0);
+    CHECK(labels[1].address, 0x1004);
+    CHECK(feddurzai_assemble_code_near(64, 0, "x: inc [rbx]", 12, NULL, 0, code, 4, labels, 2, r), FEDDURZAI_NO_SIZE);
+    CHECK(feddurzai_assemble_code_near(17, 0, "nop", 3, NULL, 0, code, 4, labels, 2, r), FEDDURZAI_BAD_MODE);
     free(r);
     free(labels);
     free(code);

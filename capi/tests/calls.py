@@ -360,6 +360,7 @@ def routines_are_assembled():
         (f.Reason.UNKNOWN, 3, 1, "nop\n\njmp there"),
         (f.Reason.TWICE, 2, 2, "x: nop\n x: nop"),
         (f.Reason.BAD_ALIGNMENT, 2, 1, "nop\nalign 3"),
+        (f.Reason.BAD_LABEL, 2, 2, "nop\n CL: nop"),
         (f.Reason.UNFIT, 2, 4, "db 0, 0, 0, 0, 0, 0, 0, 0\nx: db x+248"),
         (f.Reason.TOO_MANY, 65537, 1, 65537 * "nop\n"),
     ):
@@ -371,7 +372,21 @@ def routines_are_assembled():
     # columns count bytes, and the mark stands under the letter
     check(str(refused(f.Reason.NO_TEXT, f.assemble_code, 64, 0, "\tmvo eax, '\u00e9'")).split("\n")[1:], ["\tmvo eax, '\u00e9'", "\t^"])
     check(str(refused(f.Reason.BAD_NAMES, f.assemble_code, 64, 0, "nop", {"a": 1, "rax": 2})).endswith(": rax = 0x2"), True)
-    check(str(refused(f.Reason.WRAPS, f.assemble_code, 64, (1 << 64) - 1, "nop\nnop")).endswith(": it ends at 0x1"), True)
+    wraps = refused(f.Reason.WRAPS, f.assemble_code, 64, (1 << 64) - 1, "nop\n nop")
+    check(str(wraps).split("\n")[1:], [" nop", " ^"])
+    check((wraps.report.line, wraps.report.column, wraps.report.address), (2, 2, 1))
+    far = refused(f.Reason.TOO_FAR, f.assemble_code, 64, 0x80001000, "nop\n db 1, 2\nx: lea rax, [rel 0x1007]")
+    check(str(far).split("\n")[1:], ["x: lea rax, [rel 0x1007]", "   ^"])
+    check((far.report.line, far.report.column, far.report.at, far.report.address), (3, 4, 3, 0x1007))
+    # a branch whose target only the first byte reaches: through a slot, or refused
+    given = (64, 0x80000000, "nop\n jmp back", {"back": 5})
+    made = f.assemble_code(*given)
+    check((made.code.hex(), made.report.slots, f.assemble_code(*given, slots=True).code), ("90ff2501000000cc0500000000000000", 1, made.code))
+    far = refused(f.Reason.TOO_FAR, f.assemble_code, *given, slots=False)
+    check(str(far).split("\n")[1:], [" jmp back", " ^"])
+    check((far.report.line, far.report.column, far.report.at, far.report.address, far.report.slots), (2, 2, 1, 5, 0))
+    near = f.assemble_code(64, 0x80000000, "jmp back\n nop", {"back": 5}, slots=False)
+    check((near.code.hex(), near.report.slots, near.lines), ("e90000008090", 0, {1: 0x80000000, 2: 0x80000005}))
     refused(f.Reason.BAD_MODE, f.assemble_code, 17, 0, "nop")
     for name in ("", "1a", "a b", "a = 1\nb", "a;", "\u00e9"):
         raised(ValueError, f.assemble_code, 64, 0, "nop", {name: 1})

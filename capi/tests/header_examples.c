@@ -179,6 +179,14 @@ static void printed_and_read(void)
     CHECK_BYTES(bytes, "\x01\xc8\xff\xc9\x75\xfa\xc3");
     CHECK(labels[0].address, 0x401000);
     CHECK(labels[0].len, 5);
+    const char *back = "dec ecx\n jmp start", *start = "start = 0x10";
+    said = feddurzai_assemble_code_near(64, 0x8000000a, back, strlen(back), start, strlen(start), bytes, sizeof bytes,
+        labels, 1, &routine);
+    // said is FEDDURZAI_TOO_FAR, routine.line is 2, routine.column is 2, routine.address is 0x10
+    CHECK(said, FEDDURZAI_TOO_FAR);
+    CHECK(routine.line, 2);
+    CHECK(routine.column, 2);
+    CHECK(routine.address, 0x10);
     len = feddurzai_jump(64, 0x1000, 0x1010, FEDDURZAI_JUMP_NEAR, bytes, sizeof bytes);        // 5: e9 0b 00 00 00
     CHECK(len, 5);
     CHECK_BYTES(bytes, "\xe9\x0b\x00\x00\x00");

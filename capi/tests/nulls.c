@@ -161,6 +161,12 @@ static void check_nulls(void)
     CHECK(feddurzai_assemble_code(64, 0, "nop", 3, "", 0, out, sizeof out, NULL, 1, &routine), FEDDURZAI_NULL);
     CHECK(feddurzai_assemble_code(64, 0, "nop", 3, "", 0, out, sizeof out, &label, 1, NULL), FEDDURZAI_NULL);
     CHECK(feddurzai_assemble_code(64, 0, NULL, 0, NULL, 0, NULL, 0, NULL, 0, NULL), FEDDURZAI_NULL);
+    CHECK(feddurzai_assemble_code_near(64, 0, NULL, 3, "", 0, out, sizeof out, &label, 1, &routine), FEDDURZAI_NULL);
+    CHECK(feddurzai_assemble_code_near(64, 0, "nop", 3, NULL, 1, out, sizeof out, &label, 1, &routine), FEDDURZAI_NULL);
+    CHECK(feddurzai_assemble_code_near(64, 0, "nop", 3, "", 0, NULL, sizeof out, &label, 1, &routine), FEDDURZAI_NULL);
+    CHECK(feddurzai_assemble_code_near(64, 0, "nop", 3, "", 0, out, sizeof out, NULL, 1, &routine), FEDDURZAI_NULL);
+    CHECK(feddurzai_assemble_code_near(64, 0, "nop", 3, "", 0, out, sizeof out, &label, 1, NULL), FEDDURZAI_NULL);
+    CHECK(feddurzai_assemble_code_near(64, 0, NULL, 0, NULL, 0, NULL, 0, NULL, 0, NULL), FEDDURZAI_NULL);
 
     CHECK(feddurzai_jump(64, 0, 0, FEDDURZAI_JUMP_NEAR, NULL, sizeof out), FEDDURZAI_NULL);
     CHECK(feddurzai_register_text(0, FEDDURZAI_R64, 0, NULL, sizeof text), FEDDURZAI_NULL);
@@ -338,6 +344,8 @@ static void check_empty(void)
     CHECK(feddurzai_assemble(64, 0, "nop", 3, NULL, 0), FEDDURZAI_NO_ROOM);
     CHECK(feddurzai_read_intel(64, 0, NULL, 0, &unread), FEDDURZAI_NO_TEXT);
     CHECK(feddurzai_assemble_code(64, 0, NULL, 0, NULL, 0, NULL, 0, NULL, 0, &routine), 0);
+    CHECK(feddurzai_assemble_code_near(64, 0, NULL, 0, NULL, 0, NULL, 0, NULL, 0, &routine), 0);
+    CHECK(feddurzai_assemble_code_near(64, 0, "nop", 3, NULL, 0, NULL, 0, NULL, 0, &routine), FEDDURZAI_NO_ROOM);
     CHECK(feddurzai_assemble_code(64, 0, "nop", 3, NULL, 0, NULL, 0, NULL, 0, &routine), FEDDURZAI_NO_ROOM);
     CHECK(routine.bytes == 1 && routine.slots == 0 && routine.labels == 0 && routine.line == 0 && routine.address == 0, 1);
     memset(&routine, 0xaa, sizeof routine);
@@ -441,6 +449,7 @@ static void check_zeros(void)
     CHECK(feddurzai_pieces(64, 0, &zeros, text, sizeof text, pieces, 40), FEDDURZAI_BAD_FORM);
     CHECK(FEDDURZAI_CAUSE(feddurzai_encode(64, 0, &zeros, out, sizeof out)), FEDDURZAI_CAUSE_KIND);
     CHECK(nothing_was_written(), 1);
+    CHECK(feddurzai_assemble_code_near(0, 0, NULL, 0, NULL, 0, NULL, 0, NULL, 0, &routine), FEDDURZAI_BAD_MODE);
     CHECK(feddurzai_assemble_code(0, 0, NULL, 0, NULL, 0, NULL, 0, NULL, 0, &routine), FEDDURZAI_BAD_MODE);
     CHECK(routine.bytes == 0 && routine.labels == 0 && routine.line == 0 && routine.column == 0 && routine.at == 0, 1);
     CHECK(feddurzai_move(0, 0, NULL, 0, 0, NULL, 0, NULL, 0, &report), FEDDURZAI_BAD_MODE);

@@ -220,6 +220,7 @@ static void works(void)
     CALL(feddurzai_offsets, 64, P(code + 10), SIZE - 10, P(&parts));
     CALL(feddurzai_assemble, 64, 0x401000, P("add rax, rcx"), 12, P(out), sizeof out);
     CALL(feddurzai_assemble_code, 64, 0x401000, P(lines), sizeof lines - 1, P("size = 8"), 8, P(out), sizeof out, P(labels), 2, P(&routine));
+    CALL(feddurzai_assemble_code_near, 64, 0x401000, P(lines), sizeof lines - 1, P("size = 8"), 8, P(out), sizeof out, P(labels), 2, P(&routine));
     CALL(feddurzai_jump, 64, 0x401000, 0x7fff00000000, FEDDURZAI_JUMP_FAR, P(out), sizeof out);
     CALL(feddurzai_register_text, FEDDURZAI_ATT, FEDDURZAI_R64, 12, P(text), sizeof text);
 }

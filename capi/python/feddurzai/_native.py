@@ -7,7 +7,7 @@ import os
 from typing import Any, Callable, List, Tuple, Type
 
 # the interface of the header for which this package is written
-INTERFACE = 11
+INTERFACE = 12
 
 MAX_LEN = 15
 MAX_JUMP = 16
@@ -114,6 +114,7 @@ encoded_len = _call(_short, "encoded_len", _u32, _u64, _at)
 assemble = _call(_short, "assemble", _u32, _u64, _at, _size, _at, _size)
 read_intel = _call(_short, "read_intel", _u32, _u64, _at, _size, _at)
 assemble_code = _call(_long, "assemble_code", _u32, _u64, _at, _size, _at, _size, _at, _size, _at, _size, _at)
+assemble_code_near = _call(_long, "assemble_code_near", _u32, _u64, _at, _size, _at, _size, _at, _size, _at, _size, _at)
 jump = _call(_short, "jump", _u32, _u64, _u64, _u32, _at, _size)
 bare_info = _bare(_short, "info")
 bare_effects = _bare(_short, "effects")

@@ -459,6 +459,7 @@ class Reason(Named):
     UNFIT = -40
     BAD_ALIGNMENT = -41
     UNSETTLED = -42
+    BAD_LABEL = -43
     NO_ENCODING = -256
 
 

@@ -50,6 +50,7 @@ _REASONS = {
     Reason.UNFIT: "the address of a label does not fit there",
     Reason.BAD_ALIGNMENT: "an alignment is a power of two from 1 to 4096",
     Reason.UNSETTLED: "the addresses of the labels do not settle",
+    Reason.BAD_LABEL: "a label is no register, no word of an operand, no mnemonic and no prefix",
 }
 # where a reason says less than all of an exact text or of moved code
 _REASONS_OF_ROUTINES = {
@@ -162,8 +163,9 @@ class StepReport:
 @dataclass(frozen=True)
 class RoutineReport:
     """The report of `assemble_code`: the sizes of the routine and of its slots, the number of its labels. After a refusal `line` and `column` are the place
-    in the text, both from 1 and columns in bytes, `source` is that line, and `mark` has a `^` under the column; for BAD_NAMES these are of the names. `at` is
-    the number of the instruction that does not reach `address`, or that is UNPLACED; each byte of data counts as one. Fields that do not apply are 0 or empty.
+    in the text, both from 1 and columns in bytes, `source` is that line, and `mark` has a `^` under the column; for BAD_NAMES these are of the names, and for
+    WRAPS it is the last line with an instruction or data. `at` is the number of the instruction that does not reach `address`, or that is UNPLACED; each byte
+    of data counts as one. Fields that do not apply are 0 or empty.
 
     >>> try:
     ...     assemble_code(64, 0, "db 1, 256")
@@ -316,15 +318,14 @@ def _where_of_routine(reason: Reason, report: RoutineReport) -> str:
     """Where the refusal occurred, by the report of `assemble_code`: the line with a mark under the column."""
     if reason is Reason.BAD_NAMES:
         return f": {report.source}"
-    if report.line:
-        return f": line {report.line}, column {report.column}\n{report.source}\n{report.mark}"
+    if not report.line:
+        return ""
+    more = ""
     if reason is Reason.WRAPS:
-        return f": it ends at {report.address:#x}"
+        more = f", which ends at {report.address:#x}"
     if reason is Reason.TOO_FAR:
-        return f": instruction {report.at}, target {report.address:#x}"
-    if reason is Reason.UNPLACED:
-        return f": in instruction {report.at}"
-    return ""
+        more = f", target {report.address:#x}"
+    return f": line {report.line}, column {report.column}{more}\n{report.source}\n{report.mark}"
 
 
 def refusal_of(number: int, report: Optional[Report] = None) -> Refusal:

@@ -30,7 +30,7 @@ class Routine:
     labels: Dict[str, int]
     report: RoutineReport
 
-    def __init__(self, code: bytes, labels: Dict[str, int], report: RoutineReport, given: Tuple[int, int, bytes, bytes]) -> None:
+    def __init__(self, code: bytes, labels: Dict[str, int], report: RoutineReport, given: Tuple[int, int, bytes, bytes, bool]) -> None:
         self.code, self.labels, self.report, self._given = code, labels, report, given
 
     def __repr__(self) -> str:
@@ -44,7 +44,7 @@ class Routine:
         >>> assemble_code(64, 0x1000, "; a loop\\nnext: dec ecx\\n  jne next").lines
         {2: 4096, 3: 4098}
         """
-        bits, base, text, names = self._given
+        bits, base, text, names, slots = self._given
         mark = b"@"
         while mark in text:
             mark += b"@"
@@ -55,7 +55,7 @@ class Routine:
         for number in here:
             if number not in own:
                 lines[number - 1] = b"%b%d: %b" % (mark, number, lines[number - 1])
-        address = _assembled(bits, base, b"\n".join(lines), names).labels
+        address = _assembled(bits, base, b"\n".join(lines), names, slots).labels
         return {number: address[(own[number][1] if number in own else b"%b%d" % (mark, number)).decode()] for number in here}
 
 
@@ -99,30 +99,33 @@ def _report_of(fields: Tuple[int, ...], reason: int, text: bytes, names: bytes) 
     return RoutineReport(*fields, line.decode("utf-8", "replace"), mark)
 
 
-def _assembled(bits: int, base: int, text: bytes, names: bytes) -> Routine:
+def _assembled(bits: int, base: int, text: bytes, names: bytes, slots: bool) -> Routine:
     """The routine of a text: a first call reports the sizes of the buffers for the second."""
     given = (bits, base, text, len(text), names, len(names))
+    assemble = _native.assemble_code if slots else _native.assemble_code_near
     room = _ReportRoom()
-    said = _native.assemble_code(*given, None, 0, None, 0, room)
+    said = assemble(*given, None, 0, None, 0, room)
     sizes = RoutineReport(*_REPORT.unpack(room.raw))
     code, labels = _native.room_of(sizes.bytes)(), _native.room_of(sizes.labels * _LABEL.size)()
     if said == Reason.NO_ROOM:
-        said = _native.assemble_code(*given, code, sizes.bytes, labels, sizes.labels, room)
+        said = assemble(*given, code, sizes.bytes, labels, sizes.labels, room)
     if said < 0:
         raise refusal_of(said, _report_of(_REPORT.unpack(room.raw), said, text, names))
-    return Routine(code.raw, _labels_of(text, labels.raw), sizes, (bits, base, text, names))
+    return Routine(code.raw, _labels_of(text, labels.raw), sizes, (bits, base, text, names, slots))
 
 
-def assemble_code(bits: int, base: int, text: str, names: Mapping[str, int] = {}) -> Routine:
+def assemble_code(bits: int, base: int, text: str, names: Mapping[str, int] = {}, *, slots: bool = True) -> Routine:
     """Assembles a routine whose first byte lies at `base`. No branch is longer than it has to be.
 
     Each line of `text` has, each optional, a label and a colon; an instruction in Intel syntax as people write it, data (`db`, `dw`, `dd`, `dq`), or an
     alignment (`align 16`); and a comment from `;` or `#` on. A label may be named wherever a number stands. `names` are names with numbers, as the
     addresses of functions. docs/assembler.md describes the texts.
 
+    In 64-bit mode a branch to an address that is out of reach goes through a slot of 8 bytes behind the code. Without `slots` it is refused: TOO_FAR.
+
     Raises Refusal with BAD_MODE, BAD_NAMES, TOO_MANY_LABELS; for the first line that is refused NO_TEXT, NO_SIZE, BAD_DATA, UNKNOWN, TWICE, UNFIT,
-    BAD_ALIGNMENT, TOO_MANY or NO_ENCODING, and the message shows that line with a mark under the column; then UNPLACED, WRAPS, TOO_FAR, UNSETTLED,
-    NO_MEMORY. Raises ValueError for a name that has other characters than a label.
+    BAD_ALIGNMENT, BAD_LABEL, TOO_MANY or NO_ENCODING, and the message shows that line with a mark under the column; then UNPLACED, WRAPS, TOO_FAR,
+    UNSETTLED, NO_MEMORY. Raises ValueError for a name that has other characters than a label.
 
     >>> made = assemble_code(64, 0x401000, "again: add eax, ecx\\n dec ecx\\n jne again ; until it is 0\\n ret")
     >>> made.code.hex(), hex(made.labels["again"])
@@ -138,4 +141,4 @@ def assemble_code(bits: int, base: int, text: str, names: Mapping[str, int] = {}
       ^
     """
     bits, base = _checks.number("bits", bits, _checks.U32), _checks.number("base", base)
-    return _assembled(bits, base, _checks.word("text", text).encode("utf-8", "replace"), _lines_of(names))
+    return _assembled(bits, base, _checks.word("text", text).encode("utf-8", "replace"), _lines_of(names), bool(slots))

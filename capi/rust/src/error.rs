@@ -149,6 +149,8 @@ pub enum Error {
     BadAlignment,
     /// The addresses of the labels did not settle in 16 rounds.
     Unsettled,
+    /// A label is a register or another word of an operand, a mnemonic or a prefix.
+    BadLabel,
     /// The instructions of a block are not decoded ones that lie one after another.
     Scattered {
         /// The number of the first instruction that does not begin where the one before it ends.
@@ -302,6 +304,7 @@ impl Error {
             -40 => Error::Unfit,
             -41 => Error::BadAlignment,
             -42 => Error::Unsettled,
+            -43 => Error::BadLabel,
             _ => Error::of_encoding(status),
         }
     }
@@ -404,6 +407,7 @@ impl fmt::Display for Error {
             Error::Unfit => f.write_str("the address of a label does not fit there"),
             Error::BadAlignment => f.write_str("an alignment is a power of two from 1 to 4096"),
             Error::Unsettled => f.write_str("the addresses of the labels do not settle"),
+            Error::BadLabel => f.write_str("a label is no register, no word of an operand, no mnemonic and no prefix"),
             Error::Unplaced { instruction } => write!(
                 f,
                 "a label that is used follows 65536 instructions and bytes of data: in instruction {}",

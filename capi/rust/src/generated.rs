@@ -2,6 +2,6 @@
 //! Numbers of `feddurzai.h`.
 
 /// The interface that this crate is made for: `FEDDURZAI_INTERFACE`.
-pub const INTERFACE: u32 = 11;
+pub const INTERFACE: u32 = 12;
 /// The number of codes: `FEDDURZAI_CODES`.
 pub const CODES: u16 = 2083;

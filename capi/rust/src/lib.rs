@@ -24,15 +24,16 @@
 //! | print | [`IntelFormatter`], [`GasFormatter`], [`MasmFormatter`], [`FormatterOutput`] |
 //! | analyse | [`InstructionInfoFactory`], [`flow_graph`], [`Code::op_code`], [`ConstantOffsets`] |
 //! | construct and encode | [`Instruction::with2`], [`Encoder`], [`assemble`], [`jump()`] |
-//! | assemble routines | [`assemble_code`], [`Routine`] |
+//! | assemble routines | [`assemble_code`], [`assemble_code_near`], [`Routine`] |
 //! | move | [`BlockEncoder`], [`move_code`], [`move_blocks`], [`Region`] |
 //! | hook, step | [`Detour`], [`look`], [`step()`], [`StepSlots`] |
 //!
 //! # Numbers
 //!
 //! A bitness is 16, 32 or 64. Addresses are 64-bit, and taken modulo 2^bitness. No call panics: a number out of range is
-//! an [`Error`]. `malloc` is called by [`assemble_code`], [`move_code`], [`move_code_outside`], [`move_code_unlisted`],
-//! [`move_blocks`], [`BlockEncoder`], [`step()`], [`flow_graph`], [`basic_blocks`], [`Detour`] and [`look`].
+//! an [`Error`]. `malloc` is called by [`assemble_code`], [`assemble_code_near`], [`move_code`], [`move_code_outside`],
+//! [`move_code_unlisted`], [`move_blocks`], [`BlockEncoder`], [`step()`], [`flow_graph`], [`basic_blocks`], [`Detour`] and
+//! [`look`].
 //!
 //! # Linking
 //!
@@ -117,7 +118,7 @@ pub use operand::{MemoryOperand, OpKind, Operand};
 pub use region::{LiveBlock, Region};
 pub use register::{Register, RegisterClass};
 #[cfg(feature = "alloc")]
-pub use routine::{assemble_code, Routine, RoutineError, RoutineLabel};
+pub use routine::{assemble_code, assemble_code_near, Routine, RoutineError, RoutineLabel};
 pub use sight::SightEnd;
 #[cfg(feature = "alloc")]
 pub use sight::{look, Passage, Sight, StartRule, View};

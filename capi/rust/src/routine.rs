@@ -91,7 +91,8 @@ impl Routine {
 /// ```
 #[derive(Clone, Copy, Debug, PartialEq, Eq, Hash)]
 pub struct RoutineError {
-    /// The line of the text that is refused, or of the names ([`Error::BadNames`]), from 1. `None` if no line is to blame.
+    /// The line of the text that is refused, or of the names ([`Error::BadNames`]), from 1; for [`Error::Wraps`] the last line with an
+    /// instruction or data. `None` if no line is to blame.
     pub line: Option<usize>,
     /// The column of what is refused in a line of the text, from 1, counted in bytes.
     pub column: Option<usize>,
@@ -171,6 +172,25 @@ fn label_of(text: &str, label: &sys::Label) -> Result<RoutineLabel, Error> {
     Ok(RoutineLabel { name: name.into(), line: size_of(label.line)?, address })
 }
 
+/// Assembles a routine, with slots or without.
+fn assembled(slots: bool, bitness: u32, base: u64, text: &str, names: &[(&str, u64)]) -> Result<Routine, RoutineError> {
+    let library = Library::get()?;
+    let names = lines_of(names)?;
+    let mut report = sys::RoutineReport::default();
+    let (mut code, mut labels) = (Vec::new(), Vec::new());
+    let mut status = library.assemble_code(slots, bitness, base, text, &names, &mut code, &mut labels, &mut report);
+    if status == NO_ROOM {
+        code = vec![0; size_of(report.bytes)?];
+        labels = vec![sys::Label::default(); size_of(report.labels)?];
+        status = library.assemble_code(slots, bitness, base, text, &names, &mut code, &mut labels, &mut report);
+    }
+    if status < 0 {
+        return Err(RoutineError::of(status, &report));
+    }
+    let labels = labels.iter().map(|label| label_of(text, label)).collect::<Result<_, _>>()?;
+    Ok(Routine { code, slots: size_of(report.slots)?, labels })
+}
+
 /// Assembles a routine whose first byte lies at `base`. No branch is longer than it has to be.
 ///
 /// Each line of `text` has, each optional, a label and a colon; an instruction in Intel syntax as people write it, data
@@ -178,11 +198,14 @@ fn label_of(text: &str, label: &sys::Label) -> Result<RoutineLabel, Error> {
 /// number stands. `names` are names with numbers, as the addresses of functions. `docs/assembler.md` of the sources
 /// describes the texts.
 ///
+/// In 64-bit mode a branch to an address that is out of reach goes through a slot of 8 bytes behind the code;
+/// [`assemble_code_near`] refuses it.
+///
 /// # Errors
 ///
 /// [`Error::BadMode`], [`Error::BadNames`], [`Error::TooManyLabels`]; for the first line that is refused [`Error::NoText`],
 /// [`Error::NoSize`], [`Error::BadData`], [`Error::UnknownName`], [`Error::PlacedTwice`], [`Error::Unfit`],
-/// [`Error::BadAlignment`], [`Error::TooMany`] or [`Error::NoEncoding`]; then [`Error::Unplaced`], [`Error::Wraps`],
+/// [`Error::BadAlignment`], [`Error::BadLabel`], [`Error::TooMany`] or [`Error::NoEncoding`]; then [`Error::Unplaced`], [`Error::Wraps`],
 /// [`Error::TooFar`], [`Error::Unsettled`] or [`Error::NoMemory`].
 ///
 /// ```
@@ -193,19 +216,22 @@ fn label_of(text: &str, label: &sys::Label) -> Result<RoutineLabel, Error> {
 /// # Ok::<(), feddurzai::RoutineError>(())
 /// ```
 pub fn assemble_code(bitness: u32, base: u64, text: &str, names: &[(&str, u64)]) -> Result<Routine, RoutineError> {
-    let library = Library::get()?;
-    let names = lines_of(names)?;
-    let mut report = sys::RoutineReport::default();
-    let (mut code, mut labels) = (Vec::new(), Vec::new());
-    let mut status = library.assemble_code(bitness, base, text, &names, &mut code, &mut labels, &mut report);
-    if status == NO_ROOM {
-        code = vec![0; size_of(report.bytes)?];
-        labels = vec![sys::Label::default(); size_of(report.labels)?];
-        status = library.assemble_code(bitness, base, text, &names, &mut code, &mut labels, &mut report);
-    }
-    if status < 0 {
-        return Err(RoutineError::of(status, &report));
-    }
-    let labels = labels.iter().map(|label| label_of(text, label)).collect::<Result<_, _>>()?;
-    Ok(Routine { code, slots: size_of(report.slots)?, labels })
+    assembled(true, bitness, base, text, names)
+}
+
+/// Assembles a routine as [`assemble_code`] does, without slots: in 64-bit mode a branch to an address that is out of
+/// reach is refused.
+///
+/// # Errors
+///
+/// Those of [`assemble_code`]. [`Error::TooFar`] is then also the first branch that would go through a slot.
+///
+/// ```
+/// use feddurzai::{assemble_code_near, Error};
+///
+/// let refused = assemble_code_near(64, 0x8000000a, "dec ecx\n jmp start", &[("start", 0x10)]).unwrap_err();
+/// assert_eq!((refused.line, refused.error), (Some(2), Error::TooFar { instruction: 1, target: 0x10 }));
+/// ```
+pub fn assemble_code_near(bitness: u32, base: u64, text: &str, names: &[(&str, u64)]) -> Result<Routine, RoutineError> {
+    assembled(false, bitness, base, text, names)
 }

@@ -1,8 +1,8 @@
 //! Constructed instructions and the encoder: bytes as the Intel SDM gives them and GNU as 2.40 writes them.
 
 use feddurzai::{
-    assemble, assemble_code, jump, read_intel, Cause, Code, Encoder, Error, Instruction, Jump, MemoryOperand, Mnemonic,
-    OpKind, Operand, Register,
+    assemble, assemble_code, assemble_code_near, jump, read_intel, Cause, Code, Encoder, Error, Instruction, Jump,
+    MemoryOperand, Mnemonic, OpKind, Operand, Register,
 };
 
 fn bytes_of(made: Result<Instruction, Error>) -> Vec<u8> {
@@ -233,6 +233,7 @@ fn routines_are_assembled() {
         ("db 256", 1, 1, Error::BadData),
         ("jmp there", 1, 1, Error::UnknownName),
         ("x: nop\n x: nop", 2, 2, Error::PlacedTwice),
+        ("nop\n movsb: nop", 2, 2, Error::BadLabel),
     ] {
         let refused = assemble_code(64, 0, text, &[]).unwrap_err();
         assert_eq!((refused.line, refused.column, refused.error), (Some(line), Some(column), error), "{}", text);
@@ -242,8 +243,18 @@ fn routines_are_assembled() {
         assert_eq!((refused.line, refused.column, refused.error), (Some(2), None, Error::BadNames), "{}", name);
     }
     let wraps = assemble_code(64, u64::MAX, "nop\nnop", &[]).unwrap_err();
-    assert_eq!((wraps.line, wraps.error), (None, Error::Wraps { end: 1 }));
+    assert_eq!((wraps.line, wraps.column, wraps.error), (Some(2), Some(1), Error::Wraps { end: 1 }));
+    let far = assemble_code(64, 0x8000_1000, "nop\n db 1, 2\nx: lea rax, [rel 0x1007]", &[]).unwrap_err();
+    assert_eq!((far.line, far.column), (Some(3), Some(4)));
+    assert_eq!(far.error, Error::TooFar { instruction: 3, target: 0x1007 });
     assert_eq!(assemble_code(7, 0, "nop", &[]).unwrap_err().error, Error::BadMode);
+    let (text, names) = ("nop\n jmp back", &[("back", 5)]);
+    let made = assemble_code(64, 0x8000_0000, text, names).unwrap();
+    assert_eq!((made.code().len(), made.slots()), (16, 1));
+    let far = assemble_code_near(64, 0x8000_0000, text, names).unwrap_err();
+    assert_eq!((far.line, far.column, far.error), (Some(2), Some(2), Error::TooFar { instruction: 1, target: 5 }));
+    let near = assemble_code_near(64, 0x8000_0000, "jmp back", names).unwrap();
+    assert_eq!((near.code(), near.slots()), (&b"\xE9\0\0\0\x80"[..], 0));
 }
 
 /// E9 and E8 with their distance from the end (SDM volume 2, JMP and CALL).

@@ -128,6 +128,19 @@ extern "C" {
         label_room: usize,
         report: *mut RoutineReport,
     ) -> i32;
+    fn feddurzai_assemble_code_near(
+        bits: u32,
+        base: u64,
+        text: *const u8,
+        len: usize,
+        names: *const u8,
+        names_len: usize,
+        code: *mut u8,
+        room: usize,
+        labels: *mut Label,
+        label_room: usize,
+        report: *mut RoutineReport,
+    ) -> i32;
     fn feddurzai_move(
         bits: u32,
         old_ip: u64,
@@ -756,6 +769,7 @@ impl Library {
 
     pub fn assemble_code(
         self,
+        slots: bool,
         bits: u32,
         base: u64,
         text: &str,
@@ -764,10 +778,11 @@ impl Library {
         labels: &mut [Label],
         report: &mut RoutineReport,
     ) -> i32 {
+        let assemble = if slots { feddurzai_assemble_code } else { feddurzai_assemble_code_near };
         // SAFETY: each slice has as many elements as its length says, `report` is a struct of the header, and no argument
         // that is written overlaps another.
         unsafe {
-            feddurzai_assemble_code(
+            assemble(
                 bits,
                 base,
                 text.as_ptr(),
