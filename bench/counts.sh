@@ -88,11 +88,25 @@ line "an instruction of move" "$(whole "$moved" move "$bits" 400000 10000000)" "
 
 # the library for C, built once: capi/build.sh FOLDER/capi
 if [ ! -f "$folder/capi/libfeddurzai.a" ]; then "$top/capi/build.sh" "$folder/capi" >&2; fi
-for work in decode text line encode; do
+for work in decode many text line encode; do
     flags=()
-    case $work in text) flags=(-DWITH_TEXT) ;; line) flags=(-DWITH_LINE) ;; encode) flags=(-DWITH_ENCODE) ;; esac
+    case $work in text) flags=(-DWITH_TEXT) ;; line) flags=(-DWITH_LINE) ;; encode) flags=(-DWITH_ENCODE) ;; many) flags=(-DWITH_MANY) ;; esac
     cc -O2 -o "$folder/c_$work" "$top/bench/peers/feddurzai.c" -I"$top/capi" "${flags[@]}" "$folder/capi/libfeddurzai.a"
     one=$(count "$folder/c_$work" "$part" "$bits" 1)
     two=$(count "$folder/c_$work" "$part" "$bits" 2)
-    line "C: $(case $work in decode) echo feddurzai_decode ;; line) echo feddurzai_line ;; *) echo "decode and $work" ;; esac)" $((two - one)) "$lines"
+    line "C: $(case $work in decode) echo feddurzai_decode ;; many) echo feddurzai_decode_many ;; line) echo feddurzai_line ;; *) echo "decode and $work" ;; esac)" $((two - one)) "$lines"
+done
+
+# a routine of the same texts, at an address from which its calls reach, with labels for the branches inside it: as asm reads its lines, and as people write them
+base=400000
+if [ "$bits" = 16 ]; then base=4000; fi
+near=$folder/counted-near.list
+"$folder/listing_program" list "$bits" "$base" intel <"$part" >"$near"
+cc -O2 -o "$folder/c_assemble" "$top/bench/peers/assemble.c" -I"$top/capi" "$folder/capi/libfeddurzai.a"
+for style in asm free; do
+    routine=$folder/counted-$style.txt
+    "$top/bench/routine_texts.py" "$near" "${ASM_LINES:-20000}" "$style" >"$routine"
+    one=$(count "$folder/c_assemble" "$routine" "$bits" 1)
+    two=$(count "$folder/c_assemble" "$routine" "$bits" 2)
+    line "C: a line of a routine, $style" $((two - one)) "$(wc -l <"$routine")"
 done

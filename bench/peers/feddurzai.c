@@ -1,5 +1,5 @@
-// The library for C: the instruction as a struct, or with its Intel text (-DWITH_TEXT), both by one call (-DWITH_LINE), or encoded again
-// (-DWITH_ENCODE).
+// The library for C: the instruction as a struct, or with its Intel text (-DWITH_TEXT), both by one call (-DWITH_LINE), encoded again
+// (-DWITH_ENCODE), or the structs of many instructions by one call (-DWITH_MANY).
 #include "measure.h"
 #include "feddurzai.h"
 
@@ -9,10 +9,36 @@
 #define NAME "feddurzai in C, text by one call"
 #elif defined WITH_ENCODE
 #define NAME "feddurzai in C, encoded"
+#elif defined WITH_MANY
+#define NAME "feddurzai in C, many by one call"
 #else
 #define NAME "feddurzai in C"
 #endif
 
+#ifdef WITH_MANY
+enum { ITEMS = 512 };
+
+static void sweep(const uint8_t *bytes, size_t size, int bits, struct counts *counts)
+{
+    static feddurzai_instr items[ITEMS];
+    size_t place = 0;
+    while (place < size) {
+        size_t count = 0;
+        int32_t taken = feddurzai_decode_many((uint32_t)bits, place, bytes + place, size - place, items, ITEMS, &count);
+        if (taken <= 0)
+            return;
+        for (size_t n = 0; n < count; n++) {
+            if (items[n].code < FEDDURZAI_CODE_TOO_SHORT) {
+                counts->sum += items[n].code;
+                counts->items++;
+            } else {
+                counts->errors++;
+            }
+        }
+        place += (size_t)taken;
+    }
+}
+#else
 static void sweep(const uint8_t *bytes, size_t size, int bits, struct counts *counts)
 {
     feddurzai_instr instr;
@@ -42,6 +68,7 @@ static void sweep(const uint8_t *bytes, size_t size, int bits, struct counts *co
         }
     }
 }
+#endif
 
 int main(int argc, char **argv)
 {
