@@ -1,8 +1,9 @@
 """The nested tables of the opcode table. handler_tables proves of each node that it is right for the rows that are left on its way.
 
-A row's conditions in a mode and at an opcode byte are nine masks, one for each field that a node may split by; a mask has a bit for each value
-that the row allows. A node splits by the field that makes the mean way to a row shortest. Behind it, each entry keeps the rows that allow its
-value, and asks them nothing more of that field. Alike nodes are written once.
+Each mode has a pair of roots of its own: one for fields with a ModRM byte and one for those without one. A row's conditions in a mode and at an
+opcode byte are nine masks, one for each field that a node may split by; a mask has a bit for each value that the row allows. A node splits by the
+field that makes the mean way to a row shortest. Behind it, each entry keeps the rows that allow its value, and asks them nothing more of that
+field. Alike nodes are written once, also those of different modes.
 """
 import functools
 import re
@@ -67,29 +68,24 @@ def keep(rows, field, value):
     return tuple((code, ms[:field] + (FULL[field],) + ms[field + 1:]) for code, ms in rows if ms[field] >> value & 1)
 
 
-def behind(state, split):
-    """What each entry of a node is for. A state is the rows that are left in each mode, None in a mode that is another entry's."""
-    if split == 'Mode':
-        return [tuple(rows if k == mode else None for k, rows in enumerate(state)) for mode in range(3)]
-    return [tuple(None if rows is None else keep(rows, split, value) for rows in state) for value in range(WIDTHS[split])]
+def behind(rows, field):
+    """The rows that are left in each entry of a node."""
+    return [keep(rows, field, value) for value in range(WIDTHS[field])]
 
 
 @functools.lru_cache(None)
-def best(state):
-    """The mean number of look-ups from here on, and what to split by: a field, the mode, 'stop' or 'leaf'."""
-    live = [rows for rows in state if rows is not None]
-    if all(rows == () for rows in live):
+def best(rows):
+    """The mean number of look-ups from here on, and what to split by: a field, 'stop' or 'leaf'."""
+    if not rows:
         return 0, 'stop'
-    if live[0] and all(rows == ((live[0][0][0], FULL),) for rows in live):
+    if rows == ((rows[0][0], FULL),):
         return 0, 'leaf'
     tries = []
-    for field in range(1, 9):
-        if any(ms[field] != FULL[field] for rows in live for _, ms in rows):
-            entries = behind(state, field)
+    for field in SPLITS:
+        if any(ms[field] != FULL[field] for _, ms in rows):
+            entries = behind(rows, field)
             tries.append((1 + sum(best(entry)[0] for entry in entries) / len(entries), field))
-    if len(live) > 1:
-        tries.append((1.001 + sum(best(entry)[0] for entry in behind(state, 'Mode')) / 3, 'Mode'))
-    return min(tries, key=lambda t: (t[0], str(t[1])))
+    return min(tries)
 
 
 class Nodes:
@@ -106,38 +102,41 @@ class Nodes:
             self.of_width[width].append(node)
         return f'N{width}({self.known[node]})'
 
-    def entry(self, state):
-        """The entry for what is left."""
-        split = best(state)[1]
+    def entry(self, rows):
+        """The entry for the rows that are left."""
+        split = best(rows)[1]
         if split == 'stop':
             return 'Stop'
         if split == 'leaf':
-            return f'Leaf({next(rows for rows in state if rows is not None)[0][0]})'
-        return self.node(SPLITS.get(split, split), [self.entry(entry) for entry in behind(state, split)])
+            return f'Leaf({rows[0][0]})'
+        return self.node(SPLITS[split], [self.entry(entry) for entry in behind(rows, split)])
 
     def depth(self, entry):
         m = re.match(r'N(\d+)\((\d+)\)', entry)
         return 1 + max(self.depth(e) for e in self.of_width[int(m[1])][int(m[2])][1]) if m else 0
 
 
+# The roots in the order of their numbers: each mode's for fields with a ModRM byte, then its for those without one.
+ROOTS = tuple((bits, present) for bits in MODES for present in (1, 0))
+
+
 def nested(table):
-    """The nodes. Nodes 0 and 1 of width 8 are the roots for fields with a ModRM byte and for those without one."""
+    """The nodes. The first of width 8 are the roots."""
     nodes = Nodes()
-    nodes.of_width[8] = [None, None]
+    nodes.of_width[8] = [None] * len(ROOTS)
     cells = {}
     for code, row in enumerate(table):
         for opcode in row.opcodes:
             cells.setdefault((row.kind, row.map, opcode), []).append((code, row))
-    for root, present in ((0, 1), (1, 0)):
+    for root, (bits, present) in enumerate(ROOTS):
         entries = []
         for kind in KINDS:
             for map_ in MAP_ORDER:
                 line = []
                 for opcode in range(256):
                     cell = cells.get((kind, map_, opcode), [])
-                    line.append(nodes.entry(tuple(
-                        keep(tuple((code, masks(bits, opcode, row)) for code, row in cell if row.modes & bits // 16), PRESENT, present)
-                        for bits in MODES)))
+                    conditions = tuple((code, masks(bits, opcode, row)) for code, row in cell if row.modes & bits // 16)
+                    line.append(nodes.entry(keep(conditions, PRESENT, present)))
                 entries.append('Stop' if all(entry == 'Stop' for entry in line) else nodes.node('Opcode', line))
         nodes.of_width[8][root] = ('Kind', tuple(entries))
     return nodes

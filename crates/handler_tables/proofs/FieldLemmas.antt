@@ -38,7 +38,6 @@ field_at-lt bits split.Prefix f lt = prefix_of-lt f.rep f.size66
 field_at-lt bits split.Place f lt = bit-lt _
 field_at-lt bits split.Reg f lt = omega arith
 field_at-lt bits split.Rm f lt = omega arith
-field_at-lt bits split.Mode f lt = size_number-lt bits
 field_at-lt bits split.Size f lt = size_number-lt (plain_size bits f.size66 f.w)
 field_at-lt bits split.W f lt = bit-lt f.w
 field_at-lt bits split.L f lt = bit-lt f.l

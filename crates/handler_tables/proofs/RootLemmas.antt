@@ -7,6 +7,7 @@ use Rattle.std.specs.Prelude.{Option, Some, None}
 use Rattle.std.proofs.lemmas.Option.{slice_get_within}
 use Rattle.x86_values.specs.declared.Bits.{Bits}
 use Rattle.x86_values.specs.declared.Bits.TheVariants.{B16, B32, B64}
+use Rattle.x86_values.specs.Modes.{size_number}
 use Rattle.instruction_parts.specs.declared.row_fields.Fields.{Fields}
 use Rattle.instruction_parts.specs.RowFields.Holds.{codes_holding, map_number}
 use Rattle.instruction_parts.specs.RowFields.Masks.{values}
@@ -17,36 +18,35 @@ use Rattle.handler_tables.specs.declared.node.Next.TheVariants.{Stop, Leaf, N2, 
 use Rattle.x86_values.specs.declared.Code.{Code}
 use Rattle.handler_tables.specs.Nodes.{nodes8, nodes256}
 use Rattle.handler_tables.specs.Splits.{root_of}
-use Rattle.handler_tables.proofs.Tree.{entry_ok, ok, get_in, under, both_ok, cell_ok, kind_ok, root_entry, tables_ok}
+use Rattle.handler_tables.proofs.Tree.{entry_ok, ok, get_in, under, both_ok, root_entry, mode_ok, cell_ok, kind_ok, tables_ok}
 use Rattle.handler_tables.proofs.TreeLemmas.{OnPath, at-Stop}
 use Rattle.handler_tables.proofs.Computed.{tables_fit}
 
 -- the root has this entry for the kind of the fields
 pub record AtRoot (bits : Bits) (f : Fields) (o : Option Next) : Type 0 where
   pub left : List Cand
-  pub right : entry_ok (ok 10 bits) (under o f.opcode) left ≡ true
+  pub right : entry_ok (ok 10) (under o f.opcode) left ≡ true
   pub same : alive left (values bits f) ≡ codes_holding bits 0 table f
 
 -- each root is a node of eight entries
-pub root-in : (m : Option ℕ) → root_of m < length nodes8
-unfolding nodes8
-root-in None = lit< tt
-root-in (Some b) = lit< tt
+pub root-in : (bits : Bits) (m : Option ℕ) → root_of bits m < length nodes8
+unfolding nodes8 size_number
+root-in B16 None = lit< tt
+root-in B16 (Some b) = lit< tt
+root-in B32 None = lit< tt
+root-in B32 (Some b) = lit< tt
+root-in B64 None = lit< tt
+root-in B64 (Some b) = lit< tt
 
-cell-mode : (op : ℕ) (with without : Option Next) (cell : List Coded) (bits : Bits) → cell_ok op with without cell ≡ true
-    → both_ok bits with without (cands bits op cell) ≡ true
+cell-mode : (number op : ℕ) (cell : List Coded) (bits : Bits) → cell_ok number op cell ≡ true → mode_ok bits number op cell ≡ true
 unfolding cell_ok
-cell-mode op with without cell B16 h =
-    (and_parts (both_ok B16 with without (cands B16 op cell))
-    (both_ok B32 with without (cands B32 op cell) && both_ok B64 with without (cands B64 op cell)) h).0
-cell-mode op with without cell B32 h =
-    (and_parts (both_ok B32 with without (cands B32 op cell)) (both_ok B64 with without (cands B64 op cell))
-    (and_parts (both_ok B16 with without (cands B16 op cell))
-    (both_ok B32 with without (cands B32 op cell) && both_ok B64 with without (cands B64 op cell)) h).1).0
-cell-mode op with without cell B64 h =
-    (and_parts (both_ok B32 with without (cands B32 op cell)) (both_ok B64 with without (cands B64 op cell))
-    (and_parts (both_ok B16 with without (cands B16 op cell))
-    (both_ok B32 with without (cands B32 op cell) && both_ok B64 with without (cands B64 op cell)) h).1).1
+cell-mode number op cell B16 h = (and_parts (mode_ok B16 number op cell) (mode_ok B32 number op cell && mode_ok B64 number op cell) h).0
+cell-mode number op cell B32 h =
+    (and_parts (mode_ok B32 number op cell) (mode_ok B64 number op cell)
+    (and_parts (mode_ok B16 number op cell) (mode_ok B32 number op cell && mode_ok B64 number op cell) h).1).0
+cell-mode number op cell B64 h =
+    (and_parts (mode_ok B32 number op cell) (mode_ok B64 number op cell)
+    (and_parts (mode_ok B16 number op cell) (mode_ok B32 number op cell && mode_ok B64 number op cell) h).1).1
 
 absent-at : (bits : Bits) (f : Fields) → f.modrm ≡ None → value_at (values bits f) 0 ≡ 0
 unfolding values value_at
@@ -57,41 +57,42 @@ unfolding values value_at
 present-at bits f x e = rw e refl
 
 chosen : (bits : Bits) (f : Fields) (with without : Option Next) (cs : List Cand)
-    → both_ok bits (under with f.opcode) (under without f.opcode) cs ≡ true
+    → both_ok (under with f.opcode) (under without f.opcode) cs ≡ true
     → alive cs (values bits f) ≡ codes_holding bits 0 table f
-    → (m : Option ℕ) → f.modrm ≡ m → (o : ℕ → Option Next) → o 0 ≡ with → o 1 ≡ without → AtRoot bits f (o (root_of m))
+    → (m : Option ℕ) → f.modrm ≡ m → (o : ℕ → Option Next) → o (root_of bits (Some 0)) ≡ with → o (root_of bits None) ≡ without
+    → AtRoot bits f (o (root_of bits m))
 unfolding both_ok
 chosen bits f with without cs h same None e o p q =
-    let a : Bool = entry_ok (ok 10 bits) (under with f.opcode) (keep 0 1 cs) in
-    let b : Bool = entry_ok (ok 10 bits) (under without f.opcode) (keep 0 0 cs) in
+    let a : Bool = entry_ok (ok 10) (under with f.opcode) (keep 0 1 cs) in
+    let b : Bool = entry_ok (ok 10) (under without f.opcode) (keep 0 0 cs) in
     rw q (record {
       left = keep 0 0 cs;
       right = (and_parts a b h).1;
       same = ap (λ v. alive (keep 0 v cs) (values bits f)) (sym (absent-at bits f e)) ∙ alive-keep 0 cs (values bits f) ∙ same;
     })
 chosen bits f with without cs h same (Some x) e o p q =
-    let a : Bool = entry_ok (ok 10 bits) (under with f.opcode) (keep 0 1 cs) in
-    let b : Bool = entry_ok (ok 10 bits) (under without f.opcode) (keep 0 0 cs) in
+    let a : Bool = entry_ok (ok 10) (under with f.opcode) (keep 0 1 cs) in
+    let b : Bool = entry_ok (ok 10) (under without f.opcode) (keep 0 0 cs) in
     rw p (record {
       left = keep 0 1 cs;
       right = (and_parts a b h).0;
       same = ap (λ v. alive (keep 0 v cs) (values bits f)) (sym (present-at bits f x e)) ∙ alive-keep 0 cs (values bits f) ∙ same;
     })
 
--- the walk starts at the root for the fields
+-- the walk starts at the root for the mode and the fields
 pub start : (bits : Bits) (f : Fields) → f.opcode < 256
-    → AtRoot bits f (root_entry (root_of f.modrm) (map_number f.vex f.map))
-unfolding tables_ok kind_ok
+    → AtRoot bits f (root_entry (root_of bits f.modrm) (map_number f.vex f.map))
+unfolding tables_ok kind_ok mode_ok
 start bits f lt =
     let number : ℕ = map_number f.vex f.map in
     let rows : List Coded = of_number number (rows_with_codes 0 table) in
     let cell : List Coded = at_opcode f.opcode rows in
-    let of_kind : kind_ok (root_entry 0 number) (root_entry 1 number) rows ≡ true =
-    below-at 8 (λ n. kind_ok (root_entry 0 n) (root_entry 1 n) (of_number n (rows_with_codes 0 table))) number tables_fit (map_number-lt f.vex f.map) in
-    let of_cell : cell_ok f.opcode (under (root_entry 0 number) f.opcode) (under (root_entry 1 number) f.opcode) cell ≡ true =
-    below-at 256 (λ op. cell_ok op (under (root_entry 0 number) op) (under (root_entry 1 number) op) (at_opcode op rows)) f.opcode of_kind lt in
-    chosen bits f (root_entry 0 number) (root_entry 1 number) (cands bits f.opcode cell)
-    (cell-mode f.opcode (under (root_entry 0 number) f.opcode) (under (root_entry 1 number) f.opcode) cell bits of_cell)
+    let of_kind : kind_ok number rows ≡ true =
+    below-at 8 (λ n. kind_ok n (of_number n (rows_with_codes 0 table))) number tables_fit (map_number-lt f.vex f.map) in
+    let of_cell : cell_ok number f.opcode cell ≡ true =
+    below-at 256 (λ op. cell_ok number op (at_opcode op rows)) f.opcode of_kind lt in
+    chosen bits f (root_entry (root_of bits (Some 0)) number) (root_entry (root_of bits None) number) (cands bits f.opcode cell)
+    (cell-mode number f.opcode cell bits of_cell)
     (alive-cands bits 0 table f) f.modrm refl (λ r. root_entry r number) refl refl
 
 module _ (bits : Bits) (f : Fields) where
@@ -100,7 +101,7 @@ module _ (bits : Bits) (f : Fields) where
   unfolding entry_ok under
   root-Stop p = at-Stop bits f 10 (record { left = p.left; right = p.right; same = p.same })
 
-  nodes256-known : (i : ℕ) (o : Option (List Next)) (cs : List Cand) → entry_ok (ok 10 bits) (get_in o f.opcode) cs ≡ true → (es : List Next) × (o ≡ Some es)
+  nodes256-known : (i : ℕ) (o : Option (List Next)) (cs : List Cand) → entry_ok (ok 10) (get_in o f.opcode) cs ≡ true → (es : List Next) × (o ≡ Some es)
   unfolding get_in entry_ok
   nodes256-known i None cs h = cc
   nodes256-known i (Some es) cs h = (es, refl)
@@ -112,8 +113,8 @@ module _ (bits : Bits) (f : Fields) where
       let k = nodes256-known i (slice_get nodes256 i) p.left p.right in
       slice_get_within nodes256 i k.0 k.1
 
-  under-N256 : (o : Option (List Next)) (es : List Next) (e : Next) (cs : List Cand) → entry_ok (ok 10 bits) (get_in o f.opcode) cs ≡ true
-      → o ≡ Some es → slice_get es f.opcode ≡ Some e → ok 10 bits e cs ≡ true
+  under-N256 : (o : Option (List Next)) (es : List Next) (e : Next) (cs : List Cand) → entry_ok (ok 10) (get_in o f.opcode) cs ≡ true
+      → o ≡ Some es → slice_get es f.opcode ≡ Some e → ok 10 e cs ≡ true
   unfolding get_in entry_ok
   under-N256 o es e cs h p q = rw (p, q) at h
 
@@ -156,9 +157,9 @@ module _ (bits : Bits) (f : Fields) where
   from_root root number es e p q a = rw (p, q) at a
 
   -- the root's entry for the kind of the fields is right
-  pub known_root : f.opcode < 256 → (root : ℕ) (es : List Next) (e : Next) → root ≡ root_of f.modrm
+  pub known_root : f.opcode < 256 → (root : ℕ) (es : List Next) (e : Next) → root ≡ root_of bits f.modrm
       → slice_get nodes8 root ≡ Some es → slice_get es (map_number f.vex f.map) ≡ Some e → AtRoot bits f (Some e)
-  known_root lt root es e is p q = from_root (root_of f.modrm) (map_number f.vex f.map) es e (rw is at p) q (start bits f lt)
+  known_root lt root es e is p q = from_root (root_of bits f.modrm) (map_number f.vex f.map) es e (rw is at p) q (start bits f lt)
 
   -- a root's entry is Stop or a node of 256
   pub root-only : (e : Next) → AtRoot bits f (Some e) → (e ≡ Stop → ⊥) → ((i : ℕ) → e ≡ N256 i → ⊥) → ⊥

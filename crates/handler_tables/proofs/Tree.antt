@@ -5,13 +5,12 @@ use Rattle.std.specs.Prelude.{Option, Some, None}
 use Rattle.x86_values.specs.declared.Bits.{Bits}
 use Rattle.x86_values.specs.declared.Bits.TheVariants.{B16, B32, B64}
 use Rattle.instruction_parts.specs.declared.row_types.Row.{Row}
-use Rattle.x86_values.specs.Modes.{size_number}
 use Rattle.handler_tables.specs.declared.node.Next.{Next}
 use Rattle.handler_tables.specs.declared.node.Next.TheVariants.{Stop, Leaf, N2, N3, N4, N8, N256}
 use Rattle.handler_tables.specs.declared.node.Split.{Split}
 use Rattle.handler_tables.specs.declared.node.Split.TheVariants as split
 use Rattle.handler_tables.specs.Nodes.{nodes2, nodes3, nodes4, nodes8, nodes256, splits2, splits3, splits4, splits8}
-use Rattle.handler_tables.specs.Splits.{width_of}
+use Rattle.handler_tables.specs.Splits.{width_of, root_of}
 
 -- ---- the node behind an entry, below the opcode byte
 
@@ -49,7 +48,7 @@ entries_at _ = None
 
 -- ---- the test
 
--- the place of a mask; the mode, the kind and the opcode byte have none
+-- the place of a mask; the kind and the opcode byte have none
 unfoldable pub mask_of : Split → Option ℕ
 mask_of split.Kind = None
 mask_of split.Opcode = None
@@ -57,16 +56,10 @@ mask_of split.Prefix = Some 1
 mask_of split.Place = Some 2
 mask_of split.Reg = Some 3
 mask_of split.Rm = Some 4
-mask_of split.Mode = None
 mask_of split.Size = Some 5
 mask_of split.W = Some 6
 mask_of split.L = Some 7
 mask_of split.RexB = Some 8
-
--- a node splits by the mode
-unfoldable pub is_mode_split : Split → Bool
-is_mode_split split.Mode = true
-is_mode_split _ = false
 
 -- a test of an entry, if there is one
 unfoldable pub entry_ok : (Next → List Cand → Bool) → Option Next → List Cand → Bool
@@ -79,28 +72,27 @@ unfolding keep
 each_ok go k v [] cs = true
 each_ok go k v (e ∷ es) cs = go e (keep k v cs) && each_ok go k (suc v) es cs
 
--- of a split by the mode only the mode's own entry is looked at
-unfoldable pub split_ok : (Next → List Cand → Bool) → Bits → Option ℕ → Bool → List Next → List Cand → Bool
-unfolding each_ok entry_ok
-split_ok go bits (Some k) m es cs = each_ok go k 0 es cs
-split_ok go bits None false es cs = false
-split_ok go bits None true es cs = entry_ok go (slice_get es (size_number bits)) cs
+-- the entries are right for what the node splits by
+unfoldable pub split_ok : (Next → List Cand → Bool) → Option ℕ → List Next → List Cand → Bool
+unfolding each_ok
+split_ok go (Some k) es cs = each_ok go k 0 es cs
+split_ok go None es cs = false
 
 -- a node is right: each of its entries is right for the candidates that remain there
-unfoldable pub node_ok : (Next → List Cand → Bool) → Bits → ℕ → Option Split → Option (List Next) → List Cand → Bool
-unfolding split_ok mask_of is_mode_split
-node_ok go bits width None _ cs = false
-node_ok go bits width (Some s) None cs = false
-node_ok go bits width (Some s) (Some es) cs = nat_le (width_of s) width && split_ok go bits (mask_of s) (is_mode_split s) es cs
+unfoldable pub node_ok : (Next → List Cand → Bool) → ℕ → Option Split → Option (List Next) → List Cand → Bool
+unfolding split_ok mask_of
+node_ok go width None _ cs = false
+node_ok go width (Some s) None cs = false
+node_ok go width (Some s) (Some es) cs = nat_le (width_of s) width && split_ok go (mask_of s) es cs
 
 -- an entry is right for these candidates, with so many look-ups left
-unfoldable pub ok : ℕ → Bits → Next → List Cand → Bool
+unfoldable pub ok : ℕ → Next → List Cand → Bool
 unfolding node_ok is_empty is_one
-ok zero bits e cs = false
-ok (suc n) bits Stop cs = is_empty cs
-ok (suc n) bits (Leaf code) cs = is_one code.0 cs
-ok (suc n) bits (N256 i) cs = false
-ok (suc n) bits e cs = node_ok (ok n bits) bits (node_width e) (split_at e) (entries_at e) cs
+ok zero e cs = false
+ok (suc n) Stop cs = is_empty cs
+ok (suc n) (Leaf code) cs = is_one code.0 cs
+ok (suc n) (N256 i) cs = false
+ok (suc n) e cs = node_ok (ok n) (node_width e) (split_at e) (entries_at e) cs
 
 -- ---- the roots
 
@@ -117,28 +109,32 @@ under (Some (N256 i)) op = get_in (slice_get nodes256 i) op
 under _ op = None
 
 -- the candidates with a ModRM byte and those without one
-unfoldable pub both_ok : Bits → Option Next → Option Next → List Cand → Bool
+unfoldable pub both_ok : Option Next → Option Next → List Cand → Bool
 unfolding entry_ok ok keep
-both_ok bits with without cs = entry_ok (ok 10 bits) with (keep 0 1 cs) && entry_ok (ok 10 bits) without (keep 0 0 cs)
-
--- both entries of an opcode byte are right for the rows there
-unfoldable pub cell_ok : ℕ → Option Next → Option Next → List Coded → Bool
-unfolding both_ok cands
-cell_ok op with without cell =
-    both_ok B16 with without (cands B16 op cell)
-    && (both_ok B32 with without (cands B32 op cell) && both_ok B64 with without (cands B64 op cell))
-
--- both entries of a kind and map are right for the rows there
-unfoldable pub kind_ok : Option Next → Option Next → List Coded → Bool
-unfolding below cell_ok under at_opcode
-kind_ok with without rows = below 256 (λ op. cell_ok op (under with op) (under without op) (at_opcode op rows))
+both_ok with without cs = entry_ok (ok 10) with (keep 0 1 cs) && entry_ok (ok 10) without (keep 0 0 cs)
 
 -- an entry of a root
 unfoldable pub root_entry : ℕ → ℕ → Option Next
 unfolding get_in
 root_entry root number = get_in (slice_get nodes8 root) number
 
--- the roots are the nodes 0, with a ModRM byte, and 1, without one
+-- behind the mode's two roots, both entries of an opcode byte are right for the rows there that exist in the mode
+unfoldable pub mode_ok : Bits → ℕ → ℕ → List Coded → Bool
+unfolding both_ok under root_entry cands
+mode_ok bits number op cell =
+    both_ok (under (root_entry (root_of bits (Some 0)) number) op) (under (root_entry (root_of bits None) number) op) (cands bits op cell)
+
+-- in each mode the entries of an opcode byte are right for the rows there
+unfoldable pub cell_ok : ℕ → ℕ → List Coded → Bool
+unfolding mode_ok
+cell_ok number op cell = mode_ok B16 number op cell && (mode_ok B32 number op cell && mode_ok B64 number op cell)
+
+-- the entries of a kind and map are right for the rows there
+unfoldable pub kind_ok : ℕ → List Coded → Bool
+unfolding below cell_ok at_opcode
+kind_ok number rows = below 256 (λ op. cell_ok number op (at_opcode op rows))
+
+-- the entries of the roots are right for these rows
 unfoldable pub tables_ok : List Row → Bool
-unfolding below kind_ok root_entry of_number rows_with_codes
-tables_ok rows = below 8 (λ number. kind_ok (root_entry 0 number) (root_entry 1 number) (of_number number (rows_with_codes 0 rows)))
+unfolding below kind_ok of_number rows_with_codes
+tables_ok rows = below 8 (λ number. kind_ok number (of_number number (rows_with_codes 0 rows)))

@@ -1,5 +1,5 @@
 -- What a node splits by, as a number of the fields.
-use Rattle.std.specs.Prelude.{ℕ, ◌==◌, ◌/◌, ◌%◌, Option, Some, None}
+use Rattle.std.specs.Prelude.{ℕ, ◌==◌, ◌+◌, ◌*◌, ◌/◌, ◌%◌, Option, Some, None}
 use Rattle.x86_values.specs.declared.Bits.{Bits}
 use Rattle.instruction_parts.specs.Bytes.{bit}
 use Rattle.instruction_parts.specs.declared.row_fields.Fields.{Fields}
@@ -17,7 +17,6 @@ width_of split.Prefix = 4
 width_of split.Place = 2
 width_of split.Reg = 8
 width_of split.Rm = 8
-width_of split.Mode = 3
 width_of split.Size = 3
 width_of split.W = 2
 width_of split.L = 2
@@ -31,13 +30,12 @@ field_at bits split.Prefix f = prefix_of f.rep f.size66
 field_at bits split.Place f = bit (byte_of f.modrm / 64 == 3)
 field_at bits split.Reg f = byte_of f.modrm / 8 % 8
 field_at bits split.Rm f = byte_of f.modrm % 8
-field_at bits split.Mode f = size_number bits
 field_at bits split.Size f = size_number (plain_size bits f.size66 f.w)
 field_at bits split.W f = bit f.w
 field_at bits split.L f = bit f.l
 field_at bits split.RexB f = bit f.rex_b
 
--- the root for fields with a ModRM byte and for those without one
-abbrev pub root_of : Option ℕ → ℕ
-root_of None = 1
-root_of (Some b) = 0
+-- the mode's root for fields with a ModRM byte and for those without one
+abbrev pub root_of : Bits → Option ℕ → ℕ
+root_of bits (Some b) = 2 * size_number bits
+root_of bits None = 2 * size_number bits + 1

@@ -32,7 +32,6 @@ pub enum Split {
     Reg,
     /// The field rm of ModRM.
     Rm,
-    Mode,
     /// The operand size by the prefixes and the mode.
     Size,
     W,

@@ -11,6 +11,8 @@ use crate::node::Split;
 use crate::splits::{front_field, front_kind, front_size_field, given_field, kind_of};
 use instruction_parts::PrefixState;
 use instruction_parts::row_fields::Fields;
+use prefixes::mode_of;
+use x86_values::size_number;
 
 /// What gives a mode and the nine fields, one at a time: only what a node splits by is read.
 pub(crate) trait FieldSource {
@@ -28,9 +30,9 @@ pub(crate) trait FieldSource {
     fn kind_number(&self) -> usize
         ensures { result ≡ map_number (fields self.now).vex (fields self.now).map };
 
-    /// Returns the number of the root: 0 with a byte after the opcode byte, 1 without one.
+    /// Returns the number of the root: each mode has one with a byte after the opcode byte, and one without.
     fn root_number(&self) -> u16
-        ensures { result ≡ root_of (fields self.now).modrm };
+        ensures { result ≡ root_of bits (fields self.now).modrm };
 
     /// The number of what a node splits by.
     fn field_of(&self, split: Split) -> usize
@@ -68,7 +70,7 @@ impl<'a, const BITS: u32> FieldSource for Front<'a, BITS> {
     #[inline(always)]
     #[tactic(auto, unfolding(opcode_rows::specs::UniqueSpelling::FieldsOf::fields_of))]
     fn root_number(&self) -> u16 {
-        number_of_root(self.byte)
+        number_of_root::<BITS>(self.byte)
     }
 
     #[inline(always)]
@@ -105,7 +107,7 @@ impl<'a, const BITS: u32> FieldSource for Given<'a, BITS> {
 
     #[inline(always)]
     fn root_number(&self) -> u16 {
-        number_of_root(self.fields.modrm)
+        number_of_root::<BITS>(self.fields.modrm)
     }
 
     #[inline(always)]
@@ -119,13 +121,14 @@ impl<'a, const BITS: u32> FieldSource for Given<'a, BITS> {
     }
 }
 
-/// Returns the root for fields with a byte after the opcode byte, or the root for fields without one.
+/// Returns the mode's root for fields with a byte after the opcode byte, or its root for fields without one.
 #[inline]
-fn number_of_root(byte: Option<u8>) -> u16
-    ensures { result ≡ root_of byte }
+fn number_of_root<const BITS: u32>(byte: Option<u8>) -> u16
+    ensures { result ≡ root_of (mode_of BITS) byte }
 {
+    let with_byte = 2 * u16::from(size_number(mode_of::<BITS>()));
     match byte {
-        Some(_) => 0,
-        None => 1,
+        Some(_) => with_byte,
+        None => with_byte + 1,
     }
 }

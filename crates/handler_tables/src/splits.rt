@@ -34,7 +34,6 @@ pub(crate) fn front_field<const BITS: u32>(
         Split::Place => bit(byte_number(byte) / 64 == 3),
         Split::Reg => (byte_number(byte) / 8 % 8) as usize,
         Split::Rm => (byte_number(byte) % 8) as usize,
-        Split::Mode => usize::from(size_number(mode_of::<BITS>())),
         Split::Size => usize::from(size_number(plain_size(
             mode_of::<BITS>(),
             size66_of(state),
@@ -58,7 +57,6 @@ pub(crate) fn given_field<const BITS: u32>(split: Split, fields: &Fields) -> usi
         Split::Place => bit(byte_number(fields.modrm) / 64 == 3),
         Split::Reg => (byte_number(fields.modrm) / 8 % 8) as usize,
         Split::Rm => (byte_number(fields.modrm) % 8) as usize,
-        Split::Mode => usize::from(size_number(mode_of::<BITS>())),
         Split::Size => usize::from(size_number(plain_size(
             mode_of::<BITS>(),
             fields.size66,
@@ -70,7 +68,7 @@ pub(crate) fn given_field<const BITS: u32>(split: Split, fields: &Fields) -> usi
     }
 }
 
-/// The number of the field by which a node of three entries splits: mostly the mode or the operand size, which are tested before the others.
+/// The number of the field by which a node of three entries splits: the operand size, which is tested before the others.
 #[inline(always)]
 #[tactic(auto, unfolding(opcode_rows::specs::UniqueSpelling::FieldsOf::fields_of))]
 pub(crate) fn front_size_field<const BITS: u32>(
@@ -81,7 +79,6 @@ pub(crate) fn front_size_field<const BITS: u32>(
     ensures { result ≡ field_at (mode_of BITS) split (fields.fields_of state.now byte) }
 {
     match split {
-        Split::Mode => usize::from(size_number(mode_of::<BITS>())),
         Split::Size => state_size_number::<BITS>(state),
         _ => front_field::<BITS>(split, state, byte),
     }

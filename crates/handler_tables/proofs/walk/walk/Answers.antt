@@ -45,7 +45,7 @@ goes-along {bits = bits} {f = f} {fuel = fuel} {less = less} {next = next} {s = 
     (goes-on bits f fuel less e s es d falls inner (on_path bits f fuel next e is path) split entries at)
 
 pub node8-root-requires : goal.node8-root-requires
-node8-root-requires g c = rw c.root_number.ensures (root-in (g.S.FieldSource.fields c.args.source.now).modrm)
+node8-root-requires g c = rw c.root_number.ensures (root-in g.S.FieldSource.bits (g.S.FieldSource.fields c.args.source.now).modrm)
 
 pub next-requires : goal.next-requires
 next-requires g c = (lit< tt, rw c.kind_number.ensures (map_number-lt (g.S.FieldSource.fields c.args.source.now).vex (g.S.FieldSource.fields c.args.source.now).map))
