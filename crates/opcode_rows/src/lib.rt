@@ -39,7 +39,7 @@ pub fn row<L: Ledger>(code: Code, steps: &mut Steps<L>) -> Row
     ensures step { steps.new ≡ steps.old + 1 }
 {
     steps.tick();
-    row_at(code)
+    row_of(code)
 }
 
 /// Returns the row of a code below `ROWS`, without counting a step.
