@@ -7,6 +7,13 @@ use Rattle.instruction_parts.specs.Counting.{is_64, is_prefix, is_rex}
 abbrev pub is_lone_opcode : Bits → ℕ → Bool
 is_lone_opcode bits b = not (b == 0xC4 || b == 0xC5) && (not (is_prefix bits b) && not (is_64 bits && b == 0x62))
 
+-- a bit for each of the 64 bytes from 64 * n, set for an opcode byte by itself (2.1.1, 2.2.1.2, 2.3.5)
+unfoldable pub lone_opcodes : Bits → ℕ → ℕ
+lone_opcodes bits n =
+    if n == 0 then 0xBFBFBFBFFFFFFFFF
+    else (if n == 1 then (if is_64 bits then 0xFFFFFF0BFFFF0000 else 0xFFFFFF0FFFFFFFFF)
+    else (if n == 2 then 0xFFFFFFFFFFFFFFFF else 0xFFF2FFFFFFFFFFCF))
+
 -- what stands behind the escape byte 0F is an opcode byte, and no second escape byte
 unfoldable pub is_escaped : List ℕ → Bool
 is_escaped [] = false

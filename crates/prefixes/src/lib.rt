@@ -405,12 +405,32 @@ struct SimpleLead {
     opcode: u8,
 }
 
+/// A bit for each of the 64 bytes from `64 * n`: it is set for an opcode byte by itself.
+#[inline(always)]
+#[tactic(auto, unfolding(crate::specs::Simple::lone_opcodes))]
+fn lone_opcodes(bits: Bits, n: u8) -> u64
+    ensures { result ≡ simple.lone_opcodes bits n }
+{
+    match n {
+        0 => 0xBFBF_BFBF_FFFF_FFFF,
+        1 => {
+            if is_64(bits) {
+                0xFFFF_FF0B_FFFF_0000
+            } else {
+                0xFFFF_FF0F_FFFF_FFFF
+            }
+        }
+        2 => 0xFFFF_FFFF_FFFF_FFFF,
+        _ => 0xFFF2_FFFF_FFFF_FFCF,
+    }
+}
+
 /// Returns whether a byte is an opcode byte by itself: it is no prefix, not 62 in 64-bit mode, and cannot begin a VEX.
 #[inline(always)]
 fn is_lone_opcode(bits: Bits, b: u8) -> bool
     ensures { result ≡ simple.is_lone_opcode bits b }
 {
-    !(b == 0xC4 || b == 0xC5) && !is_prefix_byte(bits, b) && !(is_64(bits) && b == 0x62)
+    (lone_opcodes(bits, b / 64) >> (b % 64)) % 2 == 1
 }
 
 /// The opcode byte behind 0F, if it is no second escape byte.
