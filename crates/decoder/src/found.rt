@@ -87,7 +87,7 @@ fn read_by_code<L: Ledger>(
     if known.bare && is_bare_front(bits, state) {
         read_bare(bits, ip, state, code, known, bytes, out, steps)
     } else {
-        read_asked(bits, ip, state, code, bytes, out, steps)
+        read_copied(bits, ip, state, code, bytes, out, steps)
     }
 }
 
@@ -119,6 +119,48 @@ fn read_bare<L: Ledger>(
     let size = state_size(bits, &row, state);
     let immediates = immediates_at(size, known);
     read_fitting_into(bits, ip, state, code, &row, size, immediates, bytes, out)
+}
+
+/// A copy of a front.
+// Field by field: so LLVM need not keep the front itself in memory.
+#[inline(always)]
+pub(crate) fn copy_of(state: &PrefixState) -> PrefixState
+    ensures { result ≡ state.now }
+{
+    PrefixState {
+        used: state.used,
+        size66: state.size66,
+        addr67: state.addr67,
+        lock: state.lock,
+        rep: state.rep,
+        seg: state.seg,
+        rex: state.rex,
+        vex: state.vex,
+        map: state.map,
+        opcode: state.opcode,
+    }
+}
+
+/// Reads by a row like [`read_asked`], from a copy of the front.
+#[inline(always)]
+fn read_copied<L: Ledger>(
+    bits: Bits,
+    ip: u64,
+    state: &PrefixState,
+    code: Code,
+    bytes: &[u8],
+    out: &mut Decoded,
+    steps: &mut Steps<L>,
+) -> Option<()>
+    requires front { front_of bits bytes.now ≡ Known state.now }
+    requires code { code.0 < ROWS }
+    ensures some { IfSome result (λ _. (row : Row) → slice_get table code.0 ≡ Some row → RowReads bits ip code row bytes.now out.new) }
+    ensures len { IfSome result (λ _. (0 < out.new.len) × (out.new.len ≤ 15) × (out.new.len ≤ length bytes.now)) }
+    ensures none { IsNone result → (row : Row) → slice_get table code.0 ≡ Some row → RowIsLate bits row bytes.now }
+    ensures step { steps.new ≡ steps.old + 1 }
+{
+    let state = copy_of(state);
+    read_asked(bits, ip, &state, code, bytes, out, steps)
 }
 
 /// Reads by a row, and tests all its conditions.

@@ -1,10 +1,10 @@
 //! The reading of some bytes.
 
-ghost use Rattle.std.specs.Prelude.{◌≡◌, ◌+◌, ◌<◌, ◌≤◌, length, IsTrue, IfOk};
+ghost use Rattle.std.specs.Prelude.{◌≡◌, ◌+◌, ◌<◌, ◌≤◌, length, IsTrue, IfOk, Err};
 ghost use Rattle.instruction_parts.specs.Front.{front_of, Known};
 ghost use Rattle.prefixes.specs.Answer.{is_mode, mode_of};
 ghost use Rattle.modrm_sib.specs.Answer.{answer_in};
-ghost use Rattle.row_relation.specs.Spells.{IsReading};
+ghost use Rattle.row_relation.specs.Spells.{IsReading, SpellsNothing};
 ghost use Rattle.opcode_rows.specs.Table.{table};
 ghost use Rattle.opcode_rows.specs.Allowed.{is_well_formed};
 ghost use Rattle.opcode_rows.specs.Reading.{IsRead};
@@ -14,7 +14,7 @@ ghost use Rattle.decoder.specs.Cells.{cell_count, most_steps};
 use crate::DecodeError;
 use crate::by_mode::decode_onto;
 use crate::cell::{cell_of, error_of};
-use crate::found::read_found;
+use crate::found::{copy_of, read_found};
 use instruction_parts::PrefixState;
 use modrm_sib::UNREAD;
 use prefixes::{NO_FRONT, PrefixError, mode_of, read_front_into, simple_front};
@@ -169,6 +169,24 @@ fn read_known<const BITS: u32, L: Ledger>(
 {
     match read_found::<BITS, L>(ip, state, bytes, out, steps) {
         Some(()) => Ok(()),
-        None => Err(error_of(mode_of::<BITS>(), ip, state, bytes, cell_of(state), steps)),
+        None => Err(copied_error(mode_of::<BITS>(), ip, state, bytes, steps)),
     }
+}
+
+/// Returns why bytes with a known front begin with no instruction, from a copy of the front.
+#[inline(always)]
+fn copied_error<L: Ledger>(
+    bits: Bits,
+    ip: u64,
+    state: &PrefixState,
+    bytes: &[u8],
+    steps: &mut Steps<L>,
+) -> DecodeError
+    requires front { front_of bits bytes.now ≡ Known state.now }
+    requires nothing { SpellsNothing table bits ip bytes.now }
+    ensures reading { IsReading table bits ip bytes.now (reading_of (Err result)) }
+    ensures steps { steps.new ≤ steps.old + cell_count state.now }
+{
+    let state = copy_of(state);
+    error_of(bits, ip, &state, bytes, cell_of(&state), steps)
 }

@@ -20,11 +20,7 @@ use x86_values::{Bits, size_number};
 // Not built into the walk: there each of these numbers would be made before the first node, and most walks need one or two.
 #[inline(never)]
 #[tactic(auto, unfolding(opcode_rows::specs::UniqueSpelling::FieldsOf::fields_of))]
-pub(crate) fn front_field<const BITS: u32>(
-    split: Split,
-    state: &PrefixState,
-    byte: Option<u8>,
-) -> usize
+fn stored_field<const BITS: u32>(split: Split, state: &PrefixState, byte: Option<u8>) -> usize
     ensures { result ≡ field_at (mode_of BITS) split (fields.fields_of state.now byte) }
 {
     match split {
@@ -43,6 +39,39 @@ pub(crate) fn front_field<const BITS: u32>(
         Split::L => bit(l_of(state)),
         Split::RexB => bit(bit_of_rex(0, state.rex)),
     }
+}
+
+/// A copy of a front.
+// Field by field: so LLVM need not keep the front itself in memory.
+#[inline(always)]
+fn copy_of(state: &PrefixState) -> PrefixState
+    ensures { result ≡ state.now }
+{
+    PrefixState {
+        used: state.used,
+        size66: state.size66,
+        addr67: state.addr67,
+        lock: state.lock,
+        rep: state.rep,
+        seg: state.seg,
+        rex: state.rex,
+        vex: state.vex,
+        map: state.map,
+        opcode: state.opcode,
+    }
+}
+
+/// Returns the number of the field by which a node splits, like [`stored_field`], from a copy of the front.
+#[inline(always)]
+pub(crate) fn front_field<const BITS: u32>(
+    split: Split,
+    state: &PrefixState,
+    byte: Option<u8>,
+) -> usize
+    ensures { result ≡ field_at (mode_of BITS) split (fields.fields_of state.now byte) }
+{
+    let state = copy_of(state);
+    stored_field::<BITS>(split, &state, byte)
 }
 
 /// The number of what a node splits by, from the nine fields.
