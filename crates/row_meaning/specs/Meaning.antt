@@ -33,7 +33,7 @@ use Rattle.instruction_parts.specs.declared.spelling.Spelling.{Spelling}
 use Rattle.instruction_parts.specs.declared.spelling.PrefixState.{PrefixState}
 use Rattle.instruction_parts.specs.Kinds.{method_of, file_of, fixed_number}
 use Rattle.instruction_parts.specs.Counting.{is_64}
-use Rattle.instruction_parts.specs.Sizes.{state_size, state_address_size, bit_b, bit_w, has_address_mark}
+use Rattle.instruction_parts.specs.Sizes.{state_size, state_address_size, bit_b, bit_x, bit_w, has_address_mark}
 use Rattle.instruction_parts.specs.Bytes.{state_of, bytes_of}
 use Rattle.row_fit.specs.Fits.{with_high_bit, has_modrm, reg_number, rm_number, vvvv_number, index_number, is_displacement_alone, immediate_bytes, is_memory_method, kind_at}
 
@@ -110,6 +110,10 @@ register_of bits row state VectorFile n = vector row.l n
 -- under the prefixes of the state the row has this operand size, and it has this L
 abbrev pub HasSizes : Bits → PrefixState → Bits → LBit → Row → Type 0
 HasSizes bits state size l row = (size ≡ state_size bits row state) × (l ≡ row.l)
+
+-- under the prefixes of the state an address has this size, and its registers have these bits B and X
+abbrev pub HasAddressParts : Bits → PrefixState → Bits → Bool → Bool → Type 0
+HasAddressParts bits state asize b x = (asize ≡ state_address_size bits state) × (b ≡ bit_b bits state) × (x ≡ bit_x state)
 
 -- ---- memory
 

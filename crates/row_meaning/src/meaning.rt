@@ -137,6 +137,7 @@ pub fn register_of_size(
 }
 
 /// Returns the displacement size of a number of bytes.
+#[inline(always)]
 #[tactic(auto, unfolding(crate::specs::Meaning::disp_size_of))]
 pub fn disp_size_of(n: usize) -> DispSize
     ensures { result ≡ spec.disp_size_of n }
@@ -219,6 +220,7 @@ pub fn target(size: Bits, next: u64, distance: &[u8]) -> u64
 }
 
 /// Returns an address without base and index.
+#[inline(always)]
 #[tactic(auto, unfolding(crate::specs::Meaning::ip_or_absolute))]
 pub fn ip_or_absolute(bits: Bits, asize: Bits, next: u64, disp: &[u8]) -> Mem
     requires { length disp.now ≤ 8 }

@@ -72,6 +72,7 @@ fn extended(size: Bits, x: u64, top: u128) -> u64
 }
 
 /// The number in some bytes of any number, sign-extended and reduced to a size.
+#[cold]
 #[inline(never)]
 #[tactic(auto, unfolding(crate::specs::Meaning::sign_extended))]
 fn any_extended(size: Bits, bytes: &[u8]) -> u64
@@ -90,6 +91,7 @@ pub fn sign_extended(size: Bits, bytes: &[u8]) -> u64
     ensures { result ≡ spec.sign_extended (width size) bytes.now }
 {
     match bytes {
+        [] => 0,
         [b] => extended(size, *b as u64, 0x100),
         [b0, b1, b2, b3] => {
             let x = *b0 as u64 + 256 * (*b1 as u64 + 256 * (*b2 as u64 + 256 * *b3 as u64));

@@ -3,13 +3,13 @@
 ghost use Rattle.std.specs.Prelude.{◌≡◌, ◌<◌, ◌≤◌, ◌+◌, ◌||◌, false, length, IsTrue, Some, None, if◌then◌else◌};
 ghost use Rattle.row_meaning.specs.Meaning as spec;
 ghost use Rattle.instruction_parts.specs.declared.row_types.Row.{Row};
+ghost use Rattle.instruction_parts.specs.declared.spelling.PrefixState.{PrefixState};
 ghost use Rattle.row_fit.specs.Fits as fits;
 ghost use Rattle.instruction_parts.specs.Bytes as bytes;
 ghost use Rattle.x86_values.specs.declared.Bits.{Bits};
 ghost use Rattle.instruction_parts.specs.Kinds.{method_of, file_of};
 ghost use Rattle.x86_values.specs.declared.Operand.TheVariants.{Reg, Mem as MemOperand};
-ghost use Rattle.x86_values.specs.declared.Bits.TheVariants.{B16};
-ghost use Rattle.instruction_parts.specs.Sizes.{state_size, state_address_size, has_address_mark};
+ghost use Rattle.instruction_parts.specs.Sizes.{bit_b, bit_x, state_size, state_address_size, has_address_mark};
 ghost use Rattle.row_fit.specs.Sound.{sound};
 ghost use Rattle.instruction_parts.specs.declared.kinds.Method.TheVariants.{Pointer as PointerMethod};
 
@@ -21,7 +21,7 @@ use instruction_parts::bytes::{lead_len, state_of};
 use instruction_parts::counting::is_64;
 use instruction_parts::kinds::{File, Method, file_of_kind, fixed_number_of_kind, method_of_kind};
 use instruction_parts::row_types::{Class, LBit, OpKind, Row};
-use instruction_parts::sizes::{bit_b, has_address_mark, state_address_size, state_size};
+use instruction_parts::sizes::{bit_b, bit_x, has_address_mark, state_address_size, state_size};
 use instruction_parts::spelling::{ModRm, PrefixState, Sib, Spelling};
 use row_fit::fits::mode_is_memory;
 use row_fit::tail_fits::{
@@ -37,26 +37,28 @@ pub(crate) fn number_u8(n: u16) -> u8
     n as u8
 }
 
-/// The base of an address with a SIB.
+/// The base of an address with a SIB, given B.
+#[inline(always)]
 #[tactic(auto, unfolding(crate::specs::Meaning::sib_base))]
-fn sib_base(bits: Bits, asize: Bits, state: &PrefixState, m: ModRm, s: Sib) -> Option<Register>
+fn sib_base(asize: Bits, b: bool, m: ModRm, s: Sib) -> Option<Register>
     requires { s.base < 8 }
-    ensures { result ≡ spec.sib_base bits asize state.now m s }
+    ensures { (bits : Bits) (state : PrefixState) → b ≡ bit_b bits state → result ≡ spec.sib_base bits asize state m s }
 {
     if m.mode3 == 0 && s.base == 5 {
         None
     } else {
-        Some(general_register(asize, number_u8(with_high_bit(bit_b(bits, state), s.base))))
+        Some(general_register(asize, number_u8(with_high_bit(b, s.base))))
     }
 }
 
-/// The index of an address with a SIB.
+/// The index of an address with a SIB, given X.
+#[inline(always)]
 #[tactic(auto, unfolding(crate::specs::Meaning::sib_index, row_fit::specs::Fits::index_number))]
-fn sib_index(asize: Bits, state: &PrefixState, s: Sib) -> Option<Register>
+fn sib_index(asize: Bits, x: bool, s: Sib) -> Option<Register>
     requires { s.index < 8 }
-    ensures { result ≡ spec.sib_index asize state.now s }
+    ensures { (state : PrefixState) → x ≡ bit_x state → result ≡ spec.sib_index asize state s }
 {
-    let n = index_number(state, Some(s));
+    let n = with_high_bit(x, s.index);
     if n == 4 {
         None
     } else {
@@ -65,6 +67,7 @@ fn sib_index(asize: Bits, state: &PrefixState, s: Sib) -> Option<Register>
 }
 
 /// The scale, which is 1 without an index.
+#[inline(always)]
 fn scale_of(index: Option<Register>, s: Sib) -> u8
     requires { s.scale < 4 }
     ensures { result ≡ spec.scale_of index s }
@@ -80,13 +83,12 @@ fn scale_of(index: Option<Register>, s: Sib) -> u8
     }
 }
 
-/// An address with a SIB and this index.
+/// An address with a SIB and this index, given B.
 #[inline(always)]
 #[tactic(auto, unfolding(crate::specs::Meaning::memory_with_sib))]
 fn memory_with_sib(
-    bits: Bits,
     asize: Bits,
-    state: &PrefixState,
+    b: bool,
     index: Option<Register>,
     m: ModRm,
     s: Sib,
@@ -95,10 +97,11 @@ fn memory_with_sib(
     requires base { s.base < 8 }
     requires scale { s.scale < 4 }
     requires disp { length disp.now ≤ 8 }
-    ensures { result ≡ spec.memory_with_sib bits asize state.now index m s disp.now }
+    ensures { (bits : Bits) (state : PrefixState) → b ≡ bit_b bits state
+        → result ≡ spec.memory_with_sib bits asize state index m s disp.now }
 {
     Mem {
-        base: sib_base(bits, asize, state, m, s),
+        base: sib_base(asize, b, m, s),
         index,
         scale: scale_of(index, s),
         disp: sign_extended(asize, disp),
@@ -106,16 +109,17 @@ fn memory_with_sib(
     }
 }
 
-/// An address of a general register.
+/// An address of a general register, given B.
 #[inline(always)]
 #[tactic(auto, unfolding(crate::specs::Meaning::memory_at_base))]
-fn memory_at_base(bits: Bits, asize: Bits, state: &PrefixState, m: ModRm, disp: &[u8]) -> Mem
+fn memory_at_base(asize: Bits, b: bool, m: ModRm, disp: &[u8]) -> Mem
     requires rm { m.rm < 8 }
     requires disp { length disp.now ≤ 8 }
-    ensures { result ≡ spec.memory_at_base bits asize state.now m disp.now }
+    ensures { (bits : Bits) (state : PrefixState) → b ≡ bit_b bits state
+        → result ≡ spec.memory_at_base bits asize state m disp.now }
 {
     Mem {
-        base: Some(general_register(asize, number_u8(with_high_bit(bit_b(bits, state), m.rm)))),
+        base: Some(general_register(asize, number_u8(with_high_bit(b, m.rm)))),
         index: None,
         scale: 1,
         disp: sign_extended(asize, disp),
@@ -123,14 +127,31 @@ fn memory_at_base(bits: Bits, asize: Bits, state: &PrefixState, m: ModRm, disp: 
     }
 }
 
-/// Writes to `out` an address in 32 and 64-bit addressing.
+/// Writes to `out` an address without SIB in 32 and 64-bit addressing, given B.
 // Each arm writes `out`: an address that the arms hand on is put together from its parts again.
+#[inline(always)]
+#[tactic(auto, unfolding(crate::specs::Meaning::memory_wide))]
+fn base_into(bits: Bits, asize: Bits, b: bool, m: ModRm, behind: &Behind, out: &mut Operand)
+    requires rm { m.rm < 8 }
+    requires disp { length behind.now.disp.now ≤ 8 }
+    ensures { (state : PrefixState) → b ≡ bit_b bits state
+        → out.new ≡ MemOperand (spec.memory_wide bits asize state m None behind.now.next behind.now.disp.now) }
+{
+    if m.mode3 == 0 && m.rm == 5 {
+        *out = Operand::Mem(ip_or_absolute(bits, asize, behind.next, behind.disp));
+    } else {
+        *out = Operand::Mem(memory_at_base(asize, b, m, behind.disp));
+    }
+}
+
+/// Writes to `out` an address in 32 and 64-bit addressing, given B and X.
 #[inline(always)]
 #[tactic(auto, unfolding(crate::specs::Meaning::memory_wide, row_fit::specs::Fits::sib_in_range))]
 fn wide_into(
     bits: Bits,
     asize: Bits,
-    state: &PrefixState,
+    b: bool,
+    x: bool,
     m: ModRm,
     behind: &Behind,
     out: &mut Operand,
@@ -138,55 +159,73 @@ fn wide_into(
     requires rm { m.rm < 8 }
     requires sib { IsTrue (fits.sib_in_range behind.now.sib) }
     requires disp { length behind.now.disp.now ≤ 8 }
-    ensures { out.new ≡ MemOperand (spec.memory_wide bits asize state.now m behind.now.sib behind.now.next behind.now.disp.now) }
+    ensures { (state : PrefixState) → b ≡ bit_b bits state → x ≡ bit_x state
+        → out.new ≡ MemOperand (spec.memory_wide bits asize state m behind.now.sib behind.now.next behind.now.disp.now) }
 {
-    let disp = behind.disp;
     match behind.sib {
         Some(s) => {
-            let index = sib_index(asize, state, s);
-            *out = Operand::Mem(memory_with_sib(bits, asize, state, index, m, s, disp));
+            let index = sib_index(asize, x, s);
+            *out = Operand::Mem(memory_with_sib(asize, b, index, m, s, behind.disp));
         }
-        None => {
-            if m.mode3 == 0 && m.rm == 5 {
-                *out = Operand::Mem(ip_or_absolute(bits, asize, behind.next, disp));
-            } else {
-                *out = Operand::Mem(memory_at_base(bits, asize, state, m, disp));
-            }
-        }
+        None => base_into(bits, asize, b, m, behind, out),
     }
 }
 
-/// Writes to `out` the operand that is memory by ModRM in 16-bit addressing.
+/// Writes to `out` the operand that is memory by ModRM, for any address size, given B and X.
 #[inline(never)]
-#[tactic(auto, unfolding(crate::specs::Meaning::memory_operand, crate::specs::Meaning::memory_of))]
-fn short_into(bits: Bits, state: &PrefixState, behind: &Behind, out: &mut Operand)
-    requires size { state_address_size bits state.now ≡ B16 }
+#[tactic(auto, unfolding(crate::specs::Meaning::memory_operand, crate::specs::Meaning::memory_of, row_fit::specs::Fits::modrm_in_range))]
+fn memory_by_size_into(
+    bits: Bits,
+    asize: Bits,
+    b: bool,
+    x: bool,
+    behind: &Behind,
+    out: &mut Operand,
+)
+    requires modrm { IsTrue (fits.modrm_in_range behind.now.modrm) }
+    requires sib { IsTrue (fits.sib_in_range behind.now.sib) }
     requires disp { length behind.now.disp.now ≤ 8 }
-    ensures { out.new ≡ spec.memory_operand bits state.now behind.now.modrm behind.now.sib behind.now.disp.now behind.now.next }
+    ensures { (state : PrefixState) → spec.HasAddressParts bits state asize b x
+        → out.new ≡ spec.memory_operand bits state behind.now.modrm behind.now.sib behind.now.disp.now behind.now.next }
 {
     match behind.modrm {
         None => *out = Operand::Absent,
-        Some(m) => *out = Operand::Mem(memory_16(m, behind.disp)),
+        Some(m) => match asize {
+            Bits::B16 => *out = Operand::Mem(memory_16(m, behind.disp)),
+            Bits::B32 => wide_into(bits, Bits::B32, b, x, m, behind, out),
+            Bits::B64 => wide_into(bits, Bits::B64, b, x, m, behind, out),
+        },
     }
 }
 
-/// The operand that is memory by ModRM, written to `out`.
+/// Writes to `out` the operand that is memory by ModRM, given the address size, B and X.
+// The most frequent addresses, 64-bit without SIB, take few registers here; the others are written by a call.
 #[inline(never)]
 #[tactic(auto, unfolding(crate::specs::Meaning::memory_operand, crate::specs::Meaning::memory_of, row_fit::specs::Fits::modrm_in_range))]
+fn memory_by_into(bits: Bits, asize: Bits, b: bool, x: bool, behind: &Behind, out: &mut Operand)
+    requires modrm { IsTrue (fits.modrm_in_range behind.now.modrm) }
+    requires sib { IsTrue (fits.sib_in_range behind.now.sib) }
+    requires disp { length behind.now.disp.now ≤ 8 }
+    ensures { (state : PrefixState) → spec.HasAddressParts bits state asize b x
+        → out.new ≡ spec.memory_operand bits state behind.now.modrm behind.now.sib behind.now.disp.now behind.now.next }
+{
+    match (asize, behind.modrm, behind.sib) {
+        (Bits::B64, Some(m), None) => base_into(bits, Bits::B64, b, m, behind, out),
+        _ => memory_by_size_into(bits, asize, b, x, behind, out),
+    }
+}
+
+/// Writes to `out` the operand that is memory by ModRM.
+// The front itself is not handed on: so it need not stand in memory.
+#[inline(always)]
 pub(crate) fn memory_into(bits: Bits, state: &PrefixState, behind: &Behind, out: &mut Operand)
     requires modrm { IsTrue (fits.modrm_in_range behind.now.modrm) }
     requires sib { IsTrue (fits.sib_in_range behind.now.sib) }
     requires disp { length behind.now.disp.now ≤ 8 }
     ensures { out.new ≡ spec.memory_operand bits state.now behind.now.modrm behind.now.sib behind.now.disp.now behind.now.next }
 {
-    match behind.modrm {
-        None => *out = Operand::Absent,
-        Some(m) => match state_address_size(bits, state) {
-            Bits::B16 => short_into(bits, state, behind, out),
-            Bits::B32 => wide_into(bits, Bits::B32, state, m, behind, out),
-            Bits::B64 => wide_into(bits, Bits::B64, state, m, behind, out),
-        },
-    }
+    let asize = state_address_size(bits, state);
+    memory_by_into(bits, asize, bit_b(bits, state), bit_x(state), behind, out);
 }
 
 /// The address of a gather.
@@ -218,7 +257,8 @@ fn gather_memory(
                 number_u8(index_number(state, Some(s))),
             );
             let asize = state_address_size(bits, state);
-            Operand::Mem(memory_with_sib(bits, asize, state, Some(index), m, s, disp))
+            let b = bit_b(bits, state);
+            Operand::Mem(memory_with_sib(asize, b, Some(index), m, s, disp))
         }
     }
 }

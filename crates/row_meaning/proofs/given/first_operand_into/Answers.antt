@@ -8,16 +8,16 @@ returns-in-Absent-clause-operand c =
     sym (absent_operand c.args.given.now.bits c.args.row.now c.args.state.now _ c.args.given.now.behind.now.imm.now c.args.n
     (sym c.requires.kind ∙ c.in-Absent.is))
 
-pub frequent_into-requires-clause-pointer : goal.frequent_into-requires-clause-pointer
-frequent_into-requires-clause-pointer c = λ p.
+pub first_into-requires-clause-pointer : goal.first_into-requires-clause-pointer
+first_into-requires-clause-pointer c = λ p.
     all_of_pointer c.args.given.now.size c.args.row.now c.args.given.now.behind.now.imm.now c.args.n c.args.kind c.requires.one c.requires.whole
     c.requires.number c.requires.kind p
 
 pub returns-in_default : goal.returns-in_default
 returns-in_default c =
     record {
-      operand = c.frequent_into.ensures.operand c.args.row.now c.requires.size
+      operand = c.first_into.ensures.operand c.args.row.now c.requires.size
           ∙ reads_all c.args.given.now.bits c.args.given.now.size c.args.row.now c.args.state.now _ c.args.given.now.behind.now.imm.now c.args.n c.args.kind
           c.requires.size.0 c.requires.one c.requires.whole c.requires.number c.requires.kind;
-      memory = c.frequent_into.ensures.memory;
+      memory = c.first_into.ensures.memory;
     }
