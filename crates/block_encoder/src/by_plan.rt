@@ -71,8 +71,11 @@ pub fn move_by_plan(
     as_moving(move_planned(alloc, bits, items, plan))
 }
 
-/// Moves the items of a plan like [`move_planned`]. The ready bytes of an item, which do not depend on its place, are written as they are.
-pub(crate) fn move_with_ready(
+/// Moves the items of a plan like [`move_planned`]. The ready bytes of an item, which do not depend on its place, are written as they are: see
+/// [`ready_bytes`](move_goals::ready_bytes). Without ready bytes an item is encoded.
+///
+/// Errors: those of [`move_planned`].
+pub fn move_with_ready(
     alloc: Global,
     bits: Bits,
     items: &[Placed],

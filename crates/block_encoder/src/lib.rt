@@ -18,7 +18,7 @@ mod write;
 
 pub use blocks::{move_block, move_blocks};
 pub use branch_sizes::{BlockSpan, Form};
-pub use by_plan::{move_by_plan, move_planned};
+pub use by_plan::{move_by_plan, move_planned, move_with_ready};
 pub use error::{MoveError, PlanError};
 pub use last::last_len;
 pub use move_goals::Placed;

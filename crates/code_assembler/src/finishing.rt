@@ -2,10 +2,11 @@
 
 ghost use Rattle.std.specs.Prelude.{◌≡◌, ◌≤◌, ◌<◌, ◌+◌, ◌++◌, [], ◌∷◌, length, IfOk, IsTrue, None};
 ghost use Rattle.std.specs.List.{list_any};
-ghost use Rattle.move_goals.specs.Items.{ArePlaced};
+ghost use Rattle.move_goals.specs.BranchForms.Choices.{choices_of};
+ghost use Rattle.move_goals.specs.Items.{ArePlaced, item_at, one_span};
 ghost use Rattle.move_goals.specs.Plan as plan;
 ghost use Rattle.move_goals.specs.Plan.{branch_with, plan_with};
-ghost use Rattle.move_goals.specs.Items.{one_span};
+ghost use Rattle.move_goals.specs.Ready.{MayBeReady, AreReady};
 ghost use Rattle.code_assembler.specs.Routine as spec;
 ghost use Rattle.code_assembler.specs.Routine.{routine_goals};
 ghost use Rattle.code_assembler.specs.Routine.{with_byte, HasAdded};
@@ -19,13 +20,15 @@ use crate::laws_below::laws_below;
 use crate::lists::longer;
 use crate::routine::{Assembler, MOST};
 use crate::stand_in::stand_in;
-use block_encoder::{MovedBlocks, PlanError, move_planned};
-use branch_sizes::{Branch, Goal, Plan};
-use move_goals::Placed;
-use move_goals::branch_forms::choices_of;
+use arrayvec::ArrayVec;
+use block_encoder::{MovedBlocks, PlanError, move_with_ready};
+use branch_sizes::{Branch, Choice, Goal, Plan};
+use move_goals::branch_forms::{choices_of, choices_without_target};
+use move_goals::moved_targets::laws::spellings_are_moved;
 use move_goals::moved_targets::target_of;
+use move_goals::{Placed, ready_bytes, ready_of};
 use std::alloc::{AllocError, Global};
-use x86_values::Bits;
+use x86_values::{Bits, Instr};
 
 /// What the added byte is where a label stands at the end: one of those between the code and its slots.
 const END: u8 = 0xCC;
@@ -125,6 +128,19 @@ fn aim_goal(labels: &[Option<u32>], count: usize, item: &Placed, aim: Option<u32
     }
 }
 
+/// Returns the forms of an instruction. One that has ready bytes, which do not depend on its place, has one form.
+#[inline]
+fn forms_of(bits: Bits, instr: &Instr, ready: &[u8]) -> ArrayVec<Choice, 3>
+    requires { MayBeReady bits instr.now ready.now }
+    ensures { result.items ≡ choices_of bits instr.now }
+{
+    if ready.is_empty() {
+        return choices_of(bits, instr);
+    }
+    spellings_are_moved();
+    choices_without_target(bits, instr, ready.len() as u8)
+}
+
 /// Item `k` of the plan.
 fn branch_at(
     bits: Bits,
@@ -132,14 +148,16 @@ fn branch_at(
     aims: &[Option<u32>],
     items: &[Placed],
     k: usize,
+    ready: &[u8],
 ) -> Branch
     requires item { k < length items.now }
     requires aim { k < length aims.now }
+    requires ready { MayBeReady bits (item_at items.now k).instr ready.now }
     ensures { result ≡ branch_with bits items.now (routine_goals labels.now aims.now items.now) k }
 {
     let item = &items[k];
     Branch {
-        choices: choices_of(bits, &item.instr),
+        choices: forms_of(bits, &item.instr, ready),
         goal: aim_goal(labels, items.len(), item, aims[k]),
     }
 }
@@ -151,17 +169,19 @@ fn plan_at(
     labels: &[Option<u32>],
     aims: &[Option<u32>],
     items: &[Placed],
+    ready: &[ArrayVec<u8, 15>],
     base: u64,
 ) -> Result<Plan, AllocError>
     requires aimed { length aims.now ≡ length items.now }
     requires few { length items.now ≤ 65536 }
     requires placed { ArePlaced bits items.now }
+    requires ready { AreReady bits items.now ready.now }
     ensures { IfOk result (λ plan. plan ≡ plan_with bits (one_span items.now base) items.now (routine_goals labels.now aims.now items.now)) }
 {
     laws_below();
     let mut branches = Vec::with_capacity(alloc, items.len())?;
     'items: for k in 0..items.len() {
-        branches.push(branch_at(bits, labels, aims, items, k))?;
+        branches.push(branch_at(bits, labels, aims, items, k, ready_of(ready, k)))?;
     }
     Ok(Plan::new(base, branches))
 }
@@ -305,16 +325,18 @@ impl Assembler {
         ensures { IsLaidAnswer self.now base count result }
     {
         laws_below();
+        let ready = ready_bytes(alloc, self.bits, &self.items)?;
         let plan = plan_at(
             alloc,
             self.bits,
             &self.labels,
             &self.aims,
             &self.items,
+            &ready,
             base,
         )?;
         let labels = copy_of(alloc, &self.labels)?;
-        let moved = move_planned(alloc, self.bits, &self.items, &plan);
+        let moved = move_with_ready(alloc, self.bits, &self.items, &plan, &ready);
         assembled_of(alloc, moved, &self.filled, labels, base, count)
     }
 }

@@ -26,19 +26,19 @@ returns c =
     let none : first_unplaced s.labels s.aims (length s.items) ≡ None =
     subst (λ (t : RoutineState). first_unplaced t.labels t.aims (length t.items) ≡ None) same c.requires.stand in
     let added : HasAdded s c.args.count = subst (λ (t : RoutineState). HasAdded t c.args.count) same c.requires.added in
-    let items : c.deref-5.result.now ≡ s.items = c.deref-5.ensures.value in
+    let items : c.deref-7.result.now ≡ s.items = c.deref-7.ensures.value in
     let plan =
     c.in_ok-plan.ensures
-    ∙ (ap (λ (xs : List Placed). plan_with s.bits (one_span xs c.args.base) xs (routine_goals c.deref.result.now c.deref-2.result.now xs)) c.deref-3.ensures.value
-    ∙ (ap (λ (ls : List (Option ℕ)). plan_with s.bits (one_span s.items c.args.base) s.items (routine_goals ls c.deref-2.result.now s.items)) c.deref.ensures.value
-    ∙ ap (λ (xs : List (Option ℕ)). plan_with s.bits (one_span s.items c.args.base) s.items (routine_goals s.labels xs s.items)) c.deref-2.ensures.value)) in
-    let moved : IsPlanAnswer s.bits s.items (routine_plan s c.args.base) (as_moving c.move_planned-moved.result) =
-    subst (λ (p : BlockPlan). IsPlanAnswer s.bits s.items p (as_moving c.move_planned-moved.result)) plan
-    (subst (λ (xs : List Placed). IsPlanAnswer s.bits xs c.in_ok-plan.plan (as_moving c.move_planned-moved.result)) items c.move_planned-moved.ensures) in
-    let labels : c.in_ok-labels.labels.items ≡ s.labels = c.in_ok-labels.ensures ∙ c.deref-4.ensures.value in
-    let made : IsMade c.move_planned-moved.result s.filled s.labels c.args.base c.args.count c.assembled_of.result =
-    subst (λ (ls : List (Option ℕ)). IsMade c.move_planned-moved.result s.filled ls c.args.base c.args.count c.assembled_of.result) labels
-    (subst (λ (fs : List (Option ℕ)). IsMade c.move_planned-moved.result fs c.in_ok-labels.labels.items c.args.base c.args.count c.assembled_of.result)
-    c.deref-6.ensures.value c.assembled_of.ensures) in
+    ∙ (ap (λ (xs : List Placed). plan_with s.bits (one_span xs c.args.base) xs (routine_goals c.deref-2.result.now c.deref-3.result.now xs)) c.deref-4.ensures.value
+    ∙ (ap (λ (ls : List (Option ℕ)). plan_with s.bits (one_span s.items c.args.base) s.items (routine_goals ls c.deref-3.result.now s.items)) c.deref-2.ensures.value
+    ∙ ap (λ (xs : List (Option ℕ)). plan_with s.bits (one_span s.items c.args.base) s.items (routine_goals s.labels xs s.items)) c.deref-3.ensures.value)) in
+    let moved : IsPlanAnswer s.bits s.items (routine_plan s c.args.base) (as_moving c.move_with_ready-moved.result) =
+    subst (λ (p : BlockPlan). IsPlanAnswer s.bits s.items p (as_moving c.move_with_ready-moved.result)) plan
+    (subst (λ (xs : List Placed). IsPlanAnswer s.bits xs c.in_ok-plan.plan (as_moving c.move_with_ready-moved.result)) items c.move_with_ready-moved.ensures) in
+    let labels : c.in_ok-labels.labels.items ≡ s.labels = c.in_ok-labels.ensures ∙ c.deref-6.ensures.value in
+    let made : IsMade c.move_with_ready-moved.result s.filled s.labels c.args.base c.args.count c.assembled_of.result =
+    subst (λ (ls : List (Option ℕ)). IsMade c.move_with_ready-moved.result s.filled ls c.args.base c.args.count c.assembled_of.result) labels
+    (subst (λ (fs : List (Option ℕ)). IsMade c.move_with_ready-moved.result fs c.in_ok-labels.labels.items c.args.base c.args.count c.assembled_of.result)
+    c.deref-9.ensures.value c.assembled_of.ensures) in
     subst (λ (t : RoutineState). IsLaidAnswer t c.args.base c.args.count c.assembled_of.result) (sym same)
-    (finished c.laws_below.ensures s c.args.base c.args.count is added none c.move_planned-moved.result moved c.assembled_of.result made)
+    (finished c.laws_below.ensures s c.args.base c.args.count is added none c.move_with_ready-moved.result moved c.assembled_of.result made)
