@@ -14,3 +14,4 @@ pub mod Filling
 pub mod Aligned
 pub mod Quiet
 pub mod Spelling
+pub mod Keeping

@@ -12,6 +12,7 @@ pub mod Labels
 pub mod Placing
 pub mod Padding
 pub mod Text
+pub mod Known
 pub mod TextLabels
 pub mod Origins
 pub mod Rounds

@@ -7,6 +7,7 @@ mod constants;
 mod data;
 mod digits;
 mod drafts;
+mod known;
 mod labels;
 pub mod laws;
 mod line;

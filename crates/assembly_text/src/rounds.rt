@@ -2,11 +2,13 @@
 
 ghost use Rattle.std.specs.Prelude.{◌≡◌, ◌<◌, IfOk, MatchOption, MatchResult, length};
 ghost use Rattle.code_assembler.specs.Finished.{label_address};
+ghost use Rattle.assembly_text.specs.Known.{AreKnown};
 ghost use Rattle.assembly_text.specs.Placing.{view_of};
 ghost use Rattle.assembly_text.specs.declared.text_error.AssembleError.TheVariants.{Unfinished};
 ghost use Rattle.assembly_text.specs.Origins.{place_by_cause};
 ghost use Rattle.assembly_text.specs.Rounds as spec;
 
+use crate::known::{Known, no_known};
 use crate::labels::labels_in;
 use crate::origins::{Built, place_of};
 use crate::round::Round;
@@ -81,12 +83,15 @@ fn one_round(
     slots: bool,
     bits: Bits,
     round: &Round<'_, '_, '_>,
+    known: &mut Known,
 ) -> Result<(Assembled, Option<Vec<u64>>), AssembleError>
-    ensures { MatchResult result
+    requires { AreKnown known.old }
+    ensures told { MatchResult result
         (λ done. MatchOption done.1 (spec.IsLastRound slots bits (view_of round.now) done.0) (λ next. spec.IsOtherRound slots bits (view_of round.now) done.0 next.items))
         (λ why. spec.IsNoRound slots bits (view_of round.now) why) }
+    ensures known { AreKnown known.new }
 {
-    let built = match named_routine(alloc, bits, round) {
+    let built = match named_routine(alloc, bits, round, known) {
         Ok(built) => built,
         Err(why) => return Err(why),
     };
@@ -147,6 +152,10 @@ pub fn assemble_code_by(
         Ok(labels) => labels,
         Err(_) => return Err(AssembleError::NoMemory),
     };
+    let mut known = match no_known(alloc, bits, base, text.len()) {
+        Ok(known) => known,
+        Err(_) => return Err(AssembleError::NoMemory),
+    };
     let mut places = Vec::new(alloc);
     let mut left = MOST_ROUNDS;
     'rounds: while left > 0 {
@@ -156,7 +165,7 @@ pub fn assemble_code_by(
             labels: &labels,
             places: &places,
         };
-        let (made, next) = match one_round(alloc, rules.slots, bits, &round) {
+        let (made, next) = match one_round(alloc, rules.slots, bits, &round, &mut known) {
             Ok(done) => done,
             Err(why) => return Err(why),
         };

@@ -4,6 +4,7 @@ ghost use Rattle.std.specs.Prelude.{◌≡◌, ◌⊎◌, ◌<◌, ◌≤◌, le
 ghost use Rattle.code_assembler.specs.declared.error.BuildError.TheVariants.{Memory};
 ghost use Rattle.assembly_text.specs.declared.code.Code.{Code};
 ghost use Rattle.assembly_text.specs.Constants.{bad_from};
+ghost use Rattle.assembly_text.specs.Known.{AreKnown};
 ghost use Rattle.assembly_text.specs.Labels.{begins_label as begins_at};
 ghost use Rattle.assembly_text.specs.Lines as lines;
 ghost use Rattle.assembly_text.specs.Origins.{IsBuilt};
@@ -14,6 +15,7 @@ ghost use Rattle.assembly_text.specs.Text as spec;
 use crate::code::Code;
 use crate::constants::bad_name;
 use crate::data::{data_width, put_data};
+use crate::known::{Known, code_by};
 use crate::labels::{Labels, begins_label, is_label_name, label_named};
 use crate::line::{
     body_column, body_of, code_column, code_of, first_line, label_of, name_at, shown_column,
@@ -94,7 +96,7 @@ fn further_code(alloc: Global, bits: Bits, base: u64, text: &[u8]) -> Result<Cod
 }
 
 /// What a text stands for.
-fn code_in(alloc: Global, bits: Bits, base: u64, text: &[u8]) -> Result<Code, AllocError>
+pub(crate) fn code_in(alloc: Global, bits: Bits, base: u64, text: &[u8]) -> Result<Code, AllocError>
     ensures { IfOk result (λ code. spec.IsCode bits base text.now code) }
 {
     match read_intel(bits, base, text) {
@@ -342,14 +344,17 @@ fn add_code(
     routine: &mut Assembler,
     round: &Round<'_, '_, '_>,
     trace: &mut Trace,
+    known: &mut Known,
     body: &[u8],
 ) -> Result<Option<LineError>, AllocError>
-    ensures { IfOk result (λ refused. MatchOption refused
+    requires known { AreKnown known.old }
+    ensures told { IfOk result (λ refused. MatchOption refused
         (spec.AddsStated (view_of round.now) body.now routine.old trace.old routine.new trace.new)
         (λ why. spec.RefusesStated (view_of round.now) body.now routine.old why)) }
+    ensures known { AreKnown known.new }
 {
     let bits = routine.bits();
-    let code = code_in(alloc, bits, round.base, body)?;
+    let code = code_by(alloc, known, bits, round.base, body)?;
     trace.after_data = false;
     if is_whole(&code) {
         return push_code(routine, round.labels, body, code);
@@ -368,11 +373,14 @@ fn add_further(
     routine: &mut Assembler,
     round: &Round<'_, '_, '_>,
     trace: &mut Trace,
+    known: &mut Known,
     body: &[u8],
 ) -> Result<Option<LineError>, AllocError>
-    ensures { IfOk result (λ refused. MatchOption refused
+    requires known { AreKnown known.old }
+    ensures told { IfOk result (λ refused. MatchOption refused
         (spec.AddsFurther (view_of round.now) body.now routine.old trace.old routine.new trace.new)
         (λ why. spec.RefusesFurther (view_of round.now) body.now routine.old trace.old why)) }
+    ensures known { AreKnown known.new }
 {
     let align = is_align(alloc, first_word(body))?;
     if align {
@@ -380,7 +388,7 @@ fn add_further(
         trace.placed = true;
         Ok(refused)
     } else {
-        add_code(alloc, routine, round, trace, body)
+        add_code(alloc, routine, round, trace, known, body)
     }
 }
 
@@ -390,17 +398,20 @@ fn add_words(
     routine: &mut Assembler,
     round: &Round<'_, '_, '_>,
     trace: &mut Trace,
+    known: &mut Known,
     body: &[u8],
 ) -> Result<Option<LineError>, AllocError>
-    ensures { IfOk result (λ refused. MatchOption refused
+    requires known { AreKnown known.old }
+    ensures told { IfOk result (λ refused. MatchOption refused
         (spec.AddsWords (view_of round.now) body.now routine.old trace.old routine.new trace.new)
         (λ why. spec.RefusesWords (view_of round.now) body.now routine.old trace.old why)) }
+    ensures known { AreKnown known.new }
 {
     let width = data_width(first_word(body));
     if width > 0 {
         add_data(alloc, routine, round, trace, width, behind_word(body))
     } else {
-        add_further(alloc, routine, round, trace, body)
+        add_further(alloc, routine, round, trace, known, body)
     }
 }
 
@@ -410,20 +421,23 @@ fn add_body(
     routine: &mut Assembler,
     round: &Round<'_, '_, '_>,
     trace: &mut Trace,
+    known: &mut Known,
     body: &[u8],
 ) -> Result<Option<LineError>, AllocError>
-    ensures { IfOk result (λ refused. MatchOption refused
+    requires known { AreKnown known.old }
+    ensures told { IfOk result (λ refused. MatchOption refused
         (spec.AddsBody (view_of round.now) body.now routine.old trace.old routine.new trace.new)
         (λ why. spec.RefusesBody (view_of round.now) body.now routine.old trace.old why)) }
+    ensures known { AreKnown known.new }
 {
     if body.is_empty() {
         return Ok(None);
     }
     if round.names.is_empty() {
-        return add_words(alloc, routine, round, trace, body);
+        return add_words(alloc, routine, round, trace, known, body);
     }
     let words = resolved(alloc, round.names, body)?;
-    add_words(alloc, routine, round, trace, &words)
+    add_words(alloc, routine, round, trace, known, &words)
 }
 
 /// Adds a line, which has this code.
@@ -432,19 +446,22 @@ fn add_line(
     routine: &mut Assembler,
     round: &Round<'_, '_, '_>,
     trace: &mut Trace,
+    known: &mut Known,
     line: &[u8],
     code: &[u8],
 ) -> Result<Option<LineError>, AllocError>
-    requires { code.now ≡ lines.code_of line.now }
-    ensures { IfOk result (λ refused. MatchOption refused
+    requires code { code.now ≡ lines.code_of line.now }
+    requires known { AreKnown known.old }
+    ensures told { IfOk result (λ refused. MatchOption refused
         (spec.AddsLine (view_of round.now) line.now routine.old trace.old routine.new trace.new)
         (λ why. spec.RefusesLine (view_of round.now) line.now routine.old trace.old why)) }
+    ensures known { AreKnown known.new }
 {
     let line = trimmed(code);
     let refused = place_label(alloc, routine, round.labels, line)?;
     match refused {
         Some(why) => Ok(Some(why)),
-        None => add_body(alloc, routine, round, trace, body_of(line)),
+        None => add_body(alloc, routine, round, trace, known, body_of(line)),
     }
 }
 
@@ -463,10 +480,17 @@ fn column_of(line: &[u8], why: LineError) -> usize
 }
 
 /// The routine of the lines of a text in a round, or why there is none.
-fn routine_of(alloc: Global, bits: Bits, round: &Round<'_, '_, '_>) -> Result<Built, AssembleError>
-    requires { bad_from (view_of round.now).names 0 ≡ None }
-    ensures { MatchResult result (λ built. IsBuilt bits (view_of round.now) built.routine built.trace built.origins.lines.items)
+fn routine_of(
+    alloc: Global,
+    bits: Bits,
+    round: &Round<'_, '_, '_>,
+    known: &mut Known,
+) -> Result<Built, AssembleError>
+    requires good { bad_from (view_of round.now).names 0 ≡ None }
+    requires known { AreKnown known.old }
+    ensures told { MatchResult result (λ built. IsBuilt bits (view_of round.now) built.routine built.trace built.origins.lines.items)
         (λ why. rounds.IsNoRoutine bits (view_of round.now) why) }
+    ensures known { AreKnown known.new }
 {
     let count = round.labels.count;
     if count > MOST_LABELS {
@@ -484,7 +508,7 @@ fn routine_of(alloc: Global, bits: Bits, round: &Round<'_, '_, '_>) -> Result<Bu
         let (line, behind) = first_line(rest);
         let code = code_of(line);
         number += 1;
-        let refused = match add_line(alloc, &mut routine, round, &mut trace, line, code) {
+        let refused = match add_line(alloc, &mut routine, round, &mut trace, known, line, code) {
             Ok(refused) => refused,
             Err(_) => return Err(AssembleError::NoMemory),
         };
@@ -521,9 +545,12 @@ pub(crate) fn named_routine(
     alloc: Global,
     bits: Bits,
     round: &Round<'_, '_, '_>,
+    known: &mut Known,
 ) -> Result<Built, AssembleError>
-    ensures { MatchResult result (λ built. IsBuilt bits (view_of round.now) built.routine built.trace built.origins.lines.items)
+    requires known { AreKnown known.old }
+    ensures told { MatchResult result (λ built. IsBuilt bits (view_of round.now) built.routine built.trace built.origins.lines.items)
         (λ why. rounds.IsNoRoutine bits (view_of round.now) why) }
+    ensures known { AreKnown known.new }
 {
     let bad = match bad_name(alloc, round.names) {
         Ok(bad) => bad,
@@ -531,6 +558,6 @@ pub(crate) fn named_routine(
     };
     match bad {
         Some(number) => Err(AssembleError::AtName { number }),
-        None => routine_of(alloc, bits, round),
+        None => routine_of(alloc, bits, round, known),
     }
 }

@@ -7,15 +7,15 @@ use Rattle.assembly_text.proofs.Resolving.{unnamed_text}
 use Rattle.assembly_text.proofs.Telling.{told_more}
 use Rattle.assembly_text.proofs.text.add_body.Goals as goal
 
-pub returns-then-is_empty : goal.returns-then-is_empty
+pub returns-then-is_empty-clause-told : goal.returns-then-is_empty-clause-told
 unfolding AddsBody
-returns-then-is_empty c =
+returns-then-is_empty-clause-told c =
     let none : length c.args.body.now ≡ 0 = grind (arith, nat_tests, c.is_empty.ensures, c.if-is_empty.true) in
     inl (none, (refl, refl))
 
-pub returns-then-is_empty-2 : goal.returns-then-is_empty-2
+pub returns-then-is_empty-2-clause-told : goal.returns-then-is_empty-2-clause-told
 unfolding AddsBody RefusesBody
-returns-then-is_empty-2 c =
+returns-then-is_empty-2-clause-told c =
     let some : 0 < length c.args.body.now = grind (arith, nat_tests, c.is_empty.ensures, c.if-is_empty.false) in
     let none : length c.args.round.now.names.now ≤ 0 = grind (arith, nat_tests, c.is_empty-2.ensures, c.if-is_empty-2.true) in
     let v = view_of c.args.round.now in
@@ -23,15 +23,15 @@ returns-then-is_empty-2 c =
     told_more c.add_words.result _ _ _ _
     (λ h. inr (some, subst (λ (x : List ℕ). AddsWords v x c.args.routine.now c.args.trace.now c.add_words.new.routine c.add_words.new.trace) words h))
     (λ w h. (some, subst (λ (x : List ℕ). RefusesWords v x c.args.routine.now c.args.trace.now w) words h))
-    c.add_words.ensures
+    c.add_words.ensures.told
 
-pub returns : goal.returns
+pub returns-clause-told : goal.returns-clause-told
 unfolding AddsBody RefusesBody
-returns c =
+returns-clause-told c =
     let some : 0 < length c.args.body.now = grind (arith, nat_tests, c.is_empty.ensures, c.if-is_empty.false) in
     let v = view_of c.args.round.now in
     let words : c.deref.result.now ≡ resolved v.names c.args.body.now = c.deref.ensures.value ∙ c.in_ok-words.ensures in
     told_more c.add_words-2.result _ _ _ _
     (λ h. inr (some, subst (λ (x : List ℕ). AddsWords v x c.args.routine.now c.args.trace.now c.add_words-2.new.routine c.add_words-2.new.trace) words h))
     (λ w h. (some, subst (λ (x : List ℕ). RefusesWords v x c.args.routine.now c.args.trace.now w) words h))
-    c.add_words-2.ensures
+    c.add_words-2.ensures.told
