@@ -14,7 +14,7 @@ use x86_values::{Bits, same_bits};
 const TEXT_LEN: usize = 40;
 
 /// How many texts are kept at most.
-const MOST_LINES: usize = 1024;
+const MOST_LINES: usize = 8192;
 
 /// How many bytes of the routine there are for each text that is kept.
 const BYTES_EACH: usize = 16;
