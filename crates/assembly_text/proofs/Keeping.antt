@@ -6,8 +6,7 @@ use Rattle.std.proofs.lemmas.List.{get_or_read}
 use Rattle.x86_values.specs.declared.Bits.{Bits}
 use Rattle.assembly_text.specs.declared.code.Code.{Code}
 use Rattle.assembly_text.specs.declared.known.KnownLine.{KnownLine}
-use Rattle.assembly_text.specs.Known.{IsKnownLine}
-use Rattle.assembly_text.specs.Text.{IsCode}
+use Rattle.assembly_text.specs.Known.{IsRead, IsKnownLine}
 
 module _ (bits : Bits) (base : ℕ) where
   -- each place of some has a text with what it stands for, or nothing
@@ -30,13 +29,18 @@ module _ (bits : Bits) (base : ℕ) where
   known_with (x ∷ lines) (suc at) line is h zero = h zero
   known_with (x ∷ lines) (suc at) line is h (suc k) = known_with lines at line is (λ j. h (suc j)) k
 
+-- a text of other names was read too
+pub read_as : (bits same : Bits) (base address : ℕ) (text words : List ℕ) (code : Code) → bits ≡ same → base ≡ address → text ≡ words
+    → IsRead bits base text code → IsRead same address words code
+read_as bits same base address text words code bits_is base_is text_is h =
+    subst (λ (b : Bits). IsRead b address words code) bits_is
+    (subst (λ (n : ℕ). IsRead bits n words code) base_is (subst (λ (x : List ℕ). IsRead bits base x code) text_is h))
+
 -- a text that is kept stands for what is kept with it
 pub known_line : (bits same : Bits) (base address : ℕ) (lines : List (Option KnownLine)) (at : ℕ) (found : Option KnownLine) (line : KnownLine) (text : List ℕ)
     → AreKnownIn same address lines → at < length lines → found ≡ get_or lines at found → found ≡ Some line
-    → same ≡ bits → address ≡ base → bytes_eq line.text.items text ≡ true → IsCode bits base text line.code
+    → same ≡ bits → address ≡ base → bytes_eq line.text.items text ≡ true → IsRead bits base text line.code
 known_line bits same base address lines at found line text h lt read is bits_is base_is text_is =
     let there : get_or lines at None ≡ Some line = sym (get_or_read lines at found lt read None) ∙ is in
-    let known : IsCode same address line.text.items line.code = subst (λ (o : Option KnownLine). IsKnownLine same address o) there (h at) in
-    let words : line.text.items ≡ text = (bytes_eq-Decides line.text.items text).0 text_is in
-    subst (λ (b : Bits). IsCode b base text line.code) bits_is
-    (subst (λ (n : ℕ). IsCode same n text line.code) base_is (subst (λ (x : List ℕ). IsCode same address x line.code) words known))
+    let known : IsRead same address line.text.items line.code = subst (λ (o : Option KnownLine). IsKnownLine same address o) there (h at) in
+    read_as same bits address base line.text.items text line.code bits_is base_is ((bytes_eq-Decides line.text.items text).0 text_is) known

@@ -15,3 +15,4 @@ pub mod Aligned
 pub mod Quiet
 pub mod Spelling
 pub mod Keeping
+pub mod Fronts

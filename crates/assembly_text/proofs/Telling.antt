@@ -12,6 +12,7 @@ use Rattle.assembly_text.specs.Lines.{lines_in, shown, label_of, body_of}
 use Rattle.assembly_text.specs.Names.{first_word, behind_word}
 use Rattle.assembly_text.specs.Data.{data_of, data_width}
 use Rattle.assembly_text.specs.Labels.{number_from, labels_from}
+use Rattle.assembly_text.specs.Padding.{is_align}
 use Rattle.assembly_text.specs.Placing.{View, is_whole, is_nothing, placed, placed_text}
 use Rattle.assembly_text.specs.Text.{IsCode, AddsCode, RefusesCode, is_open, AddsPlaced, RefusesPlaced, AddsStated, RefusesClosed, RefusesStated, width_of, is_ever_data, is_free_data, data_refusal, AddsData, RefusesData, behind_data, AddsFurther, RefusesFurther, AddsWords, RefusesWords, AddsLabel, AddsBody, RefusesBody, AddsLine, RefusesLine}
 
@@ -106,6 +107,12 @@ module _ (v : View) (body first : List ℕ) (s t : RoutineState) (f g : Trace) (
             (subst (λ (x : List ℕ). AddsData v width x s t × (g ≡ behind_data v x f)) text_is a),
       ))
       (λ w a. inl (more, subst (λ (n : ℕ). RefusesData v n (behind_word body) s w) same (subst (λ (x : List ℕ). RefusesData v width x s w) text_is a))) h
+
+  -- what was read before, which is neither data nor an alignment
+  pub read_told : width_of body ≡ 0 → is_align (first_word body) ≡ false
+      → IfOk r (λ o. MatchOption o (AddsStated v body s f t g) (λ why. RefusesStated v body s why))
+      → IfOk r (λ o. MatchOption o (AddsWords v body s f t g) (λ why. RefusesWords v body s f why))
+  read_told none other h = told_more r _ _ _ _ (λ a. inr (none, inr (other, a))) (λ w a. inr (none, inr (other, a))) h
 
   -- no data
   pub further_told : (width : ℕ) → first ≡ first_word body → width ≡ data_width first → width ≤ 0

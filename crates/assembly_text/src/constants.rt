@@ -1,6 +1,7 @@
 //! Names with numbers from the caller.
 
 ghost use Rattle.std.specs.Prelude.{◌≡◌, IfOk};
+ghost use Rattle.assembly_text.specs.Classes as classes;
 ghost use Rattle.assembly_text.specs.Lines as lines;
 ghost use Rattle.assembly_text.specs.Constants as spec;
 
@@ -30,13 +31,20 @@ fn is_name_class(class: Class) -> bool
     }
 }
 
+/// Whether a word in lower case is no word of an operand.
+pub(crate) fn is_free_word(low: &[u8]) -> bool
+    ensures { result ≡ spec.is_name_class (classes.class_of low.now) }
+{
+    is_name_class(class_of(low))
+}
+
 /// Whether a name is no word of an operand.
 #[tactic(auto, unfolding(crate::specs::Constants::is_free_name))]
 pub(crate) fn is_free_name(alloc: Global, name: &[u8]) -> Result<bool, AllocError>
     ensures { IfOk result (λ free. free ≡ spec.is_free_name name.now) }
 {
     let low = lowered(alloc, name)?;
-    Ok(is_name_class(class_of(&low)))
+    Ok(is_free_word(&low))
 }
 
 /// The number of an operand of at most eight bytes.

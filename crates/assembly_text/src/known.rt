@@ -1,11 +1,9 @@
 //! Texts that were read before, and what they stand for. Most lines of a routine stand in it more than once.
 
 ghost use Rattle.std.specs.Prelude.{◌≡◌, ◌<◌, IfOk, IfSome, IsTrue};
-ghost use Rattle.assembly_text.specs.Known.{AreKnown};
-ghost use Rattle.assembly_text.specs.Text.{IsCode};
+ghost use Rattle.assembly_text.specs.Known.{IsRead, AreKnown};
 
 use crate::code::Code;
-use crate::text::code_in;
 use arrayvec::ArrayVec;
 use std::alloc::{AllocError, Global};
 use x86_values::{Bits, same_bits};
@@ -72,9 +70,14 @@ fn are_of(known: &Known, bits: Bits, base: u64) -> bool
 }
 
 /// What a text stands for that was read before.
-fn code_before(known: &Known, bits: Bits, base: u64, text: &[u8]) -> Option<Code>
+pub(crate) fn code_before<'a>(
+    known: &'a Known,
+    bits: Bits,
+    base: u64,
+    text: &[u8],
+) -> Option<&'a Code>
     requires { AreKnown known.now }
-    ensures { IfSome result (λ code. IsCode bits base text.now code) }
+    ensures { IfSome result (λ code. IsRead bits base text.now code.now) }
 {
     if known.lines.is_empty() || !are_of(known, bits, base) {
         return None;
@@ -83,7 +86,7 @@ fn code_before(known: &Known, bits: Bits, base: u64, text: &[u8]) -> Option<Code
         None => None,
         Some(line) => {
             if line.text.as_slice() == text {
-                Some(line.code)
+                Some(&line.code)
             } else {
                 None
             }
@@ -92,12 +95,12 @@ fn code_before(known: &Known, bits: Bits, base: u64, text: &[u8]) -> Option<Code
 }
 
 /// Keeps what a text stands for, if it is short.
-fn keep(known: &mut Known, text: &[u8], code: Code)
+pub(crate) fn keep(known: &mut Known, bits: Bits, base: u64, text: &[u8], code: Code)
     requires known { AreKnown known.old }
-    requires read { IsCode known.old.bits known.old.base text.now code }
+    requires read { IsRead bits base text.now code }
     ensures { AreKnown known.new }
 {
-    if known.lines.is_empty() {
+    if known.lines.is_empty() || !are_of(known, bits, base) {
         return;
     }
     let mut copy: ArrayVec<u8, TEXT_LEN> = ArrayVec::new();
@@ -105,26 +108,4 @@ fn keep(known: &mut Known, text: &[u8], code: Code)
         let slot = slot_of(text, known.lines.len());
         known.lines[slot] = Some(KnownLine { text: copy, code });
     }
-}
-
-/// What a text stands for. It is read if it was not before.
-pub(crate) fn code_by(
-    alloc: Global,
-    known: &mut Known,
-    bits: Bits,
-    base: u64,
-    text: &[u8],
-) -> Result<Code, AllocError>
-    requires { AreKnown known.old }
-    ensures code { IfOk result (λ code. IsCode bits base text.now code) }
-    ensures known { AreKnown known.new }
-{
-    if let Some(code) = code_before(known, bits, base, text) {
-        return Ok(code);
-    }
-    let code = code_in(alloc, bits, base, text)?;
-    if are_of(known, bits, base) {
-        keep(known, text, code);
-    }
-    Ok(code)
 }

@@ -5,8 +5,8 @@ ghost use Rattle.std.specs.HashMap as hash;
 ghost use Rattle.assembly_text.specs.Lines as lines;
 ghost use Rattle.assembly_text.specs.Labels as spec;
 
-use crate::constants::is_free_name;
-use crate::line::{begins_name, first_line, label_of, lowered, name_at, shown};
+use crate::constants::is_free_word;
+use crate::line::{begins_name, first_line, line_label, lowered, name_at};
 use crate::names::is_instruction_name;
 use code_assembler::{Assembler, Label};
 use std::alloc::{AllocError, Global};
@@ -26,15 +26,14 @@ pub(crate) struct Labels<'a> {
 }
 
 /// Whether a name may be that of a label: it is no word of an operand, no name of an instruction and no prefix, in any case.
-#[tactic(auto, unfolding(crate::specs::Labels::is_label_name))]
+#[tactic(auto, unfolding(crate::specs::Labels::is_label_name, crate::specs::Constants::is_free_name))]
 pub(crate) fn is_label_name(alloc: Global, name: &[u8]) -> Result<bool, AllocError>
     ensures { IfOk result (λ may. may ≡ spec.is_label_name name.now) }
 {
-    let free = is_free_name(alloc, name)?;
-    if !free {
+    let low = lowered(alloc, name)?;
+    if !is_free_word(&low) {
         return Ok(false);
     }
-    let low = lowered(alloc, name)?;
     let taken = is_instruction_name(alloc, &low)?;
     Ok(!taken)
 }
@@ -75,7 +74,7 @@ pub(crate) fn labels_in(alloc: Global, text: &[u8]) -> Result<Labels<'_>, AllocE
     let mut count = 0;
     'lines: while !rest.is_empty() {
         let (line, behind) = first_line(rest);
-        if let Some(label) = label_of(shown(line)) {
+        if let Some(label) = line_label(line) {
             add_name(&mut numbers, label, count)?;
             count += 1;
         }

@@ -224,18 +224,6 @@ pub(crate) fn front_of(text: &[u8], count: usize) -> &[u8]
     text.split_at(count.min(text.len())).0
 }
 
-/// What a line says besides its label.
-pub(crate) fn body_of(text: &[u8]) -> &[u8]
-    ensures { result.now ≡ spec.body_of text.now }
-{
-    if has_label(text) {
-        let (_, behind) = text.split_at(name_len(text));
-        unindented(behind.split_at(1.min(behind.len())).1)
-    } else {
-        text
-    }
-}
-
 /// What a line says: without its comment, and without blanks at its ends.
 pub(crate) fn shown(line: &[u8]) -> &[u8]
     ensures { result.now ≡ spec.shown line.now }
@@ -250,20 +238,68 @@ pub(crate) fn shown_column(line: &[u8]) -> usize
     blanks_len(code_of(line)) + 1
 }
 
-/// The column of what a line says besides its label, by its code.
-pub(crate) fn code_column(code: &[u8]) -> usize
-    ensures { (line : List ℕ) → code.now ≡ spec.code_of line → result ≡ spec.body_column line }
+/// The parts of a line.
+#[derive(Clone, Copy)]
+pub(crate) struct LineParts<'a> {
+    /// What it shows.
+    pub(crate) shown: &'a [u8],
+    /// Its label, if it has one.
+    pub(crate) label: Option<&'a [u8]>,
+    /// What it says besides its label.
+    pub(crate) body: &'a [u8],
+    /// The column of that, from 1.
+    pub(crate) column: usize,
+}
+
+/// The label of a line, if it has one. Most lines have none, as their front shows.
+pub(crate) fn line_label(line: &[u8]) -> Option<&[u8]>
+    ensures { MatchOption result (spec.label_of (spec.shown line.now) ≡ None) (λ name. spec.label_of (spec.shown line.now) ≡ Some name.now) }
+{
+    if has_label(unindented(line)) {
+        label_of(shown(line))
+    } else {
+        None
+    }
+}
+
+/// The label of the code of a line, if it has one, and what it says besides.
+fn label_and_body(text: &[u8]) -> (Option<&[u8]>, &[u8])
+    ensures label { MatchOption result.0 (spec.label_of text.now ≡ None) (λ name. spec.label_of text.now ≡ Some name.now) }
+    ensures body { result.1.now ≡ spec.body_of text.now }
+{
+    if has_label(text) {
+        let (name, behind) = text.split_at(name_len(text));
+        let body = unindented(behind.split_at(1.min(behind.len())).1);
+        (Some(name), body)
+    } else {
+        (None, text)
+    }
+}
+
+/// The parts of a line, by its code.
+pub(crate) fn parts_of(code: &[u8]) -> LineParts<'_>
+    ensures shown { result.shown.now ≡ spec.trimmed code.now }
+    ensures label { MatchOption result.label (spec.label_of result.shown.now ≡ None) (λ name. spec.label_of result.shown.now ≡ Some name.now) }
+    ensures body { result.body.now ≡ spec.body_of result.shown.now }
+    ensures column { (line : List ℕ) → code.now ≡ spec.code_of line → result.column ≡ spec.body_column line }
 {
     let blanks = blanks_len(code);
     let shown = unpadded(code.split_at(blanks).1);
-    (blanks + 1).saturating_add(shown.len().saturating_sub(body_of(shown).len()))
+    let (label, body) = label_and_body(shown);
+    let column = (blanks + 1).saturating_add(shown.len().saturating_sub(body.len()));
+    LineParts {
+        shown,
+        label,
+        body,
+        column,
+    }
 }
 
 /// The column of what a line says besides its label.
 pub(crate) fn body_column(line: &[u8]) -> usize
     ensures { result ≡ spec.body_column line.now }
 {
-    code_column(code_of(line))
+    parts_of(code_of(line)).column
 }
 
 /// The label of a line, if it has one.

@@ -1,13 +1,15 @@
 //! What the lines of a text add to a routine in a round.
 
-ghost use Rattle.std.specs.Prelude.{◌≡◌, ◌⊎◌, ◌<◌, ◌≤◌, length, true, IfOk, IfErr, OnOk, MatchOption, MatchResult, Some, None};
+ghost use Rattle.std.specs.Prelude.{◌≡◌, ◌⊎◌, ◌<◌, ◌≤◌, length, true, false, IfOk, IfErr, OnOk, MatchOption, MatchResult, Some, None};
 ghost use Rattle.code_assembler.specs.declared.error.BuildError.TheVariants.{Memory};
 ghost use Rattle.assembly_text.specs.declared.code.Code.{Code};
 ghost use Rattle.assembly_text.specs.Constants.{bad_from};
 ghost use Rattle.assembly_text.specs.Known.{AreKnown};
 ghost use Rattle.assembly_text.specs.Labels.{begins_label as begins_at};
 ghost use Rattle.assembly_text.specs.Lines as lines;
+ghost use Rattle.assembly_text.specs.Names as names;
 ghost use Rattle.assembly_text.specs.Origins.{IsBuilt};
+ghost use Rattle.assembly_text.specs.Padding.{is_align as is_align_word};
 ghost use Rattle.assembly_text.specs.Placing.{view_of, zeroed as zero_view, placed as placed_in, placed_text as text_in};
 ghost use Rattle.assembly_text.specs.Rounds as rounds;
 ghost use Rattle.assembly_text.specs.Text as spec;
@@ -15,11 +17,10 @@ ghost use Rattle.assembly_text.specs.Text as spec;
 use crate::code::Code;
 use crate::constants::bad_name;
 use crate::data::{data_width, put_data};
-use crate::known::{Known, code_by};
+use crate::known::{Known, code_before, keep};
 use crate::labels::{Labels, begins_label, is_label_name, label_named};
 use crate::line::{
-    body_column, body_of, code_column, code_of, first_line, label_of, name_at, shown_column,
-    trimmed, without_name,
+    LineParts, body_column, code_of, first_line, name_at, parts_of, shown_column, without_name,
 };
 use crate::names::{behind_word, first_word};
 use crate::numbers::{freed, placed, resolved};
@@ -96,7 +97,7 @@ fn further_code(alloc: Global, bits: Bits, base: u64, text: &[u8]) -> Result<Cod
 }
 
 /// What a text stands for.
-pub(crate) fn code_in(alloc: Global, bits: Bits, base: u64, text: &[u8]) -> Result<Code, AllocError>
+fn code_in(alloc: Global, bits: Bits, base: u64, text: &[u8]) -> Result<Code, AllocError>
     ensures { IfOk result (λ code. spec.IsCode bits base text.now code) }
 {
     match read_intel(bits, base, text) {
@@ -121,17 +122,17 @@ fn push_code(
     routine: &mut Assembler,
     labels: &Labels<'_>,
     body: &[u8],
-    code: Code,
+    code: &Code,
 ) -> Result<Option<LineError>, AllocError>
-    ensures { IfOk result (λ refused. MatchOption refused (spec.AddsCode (lines.lines_in labels.now.text.now) body.now code routine.old routine.new)
-        (λ why. spec.RefusesCode (lines.lines_in labels.now.text.now) body.now code routine.old why)) }
+    ensures { IfOk result (λ refused. MatchOption refused (spec.AddsCode (lines.lines_in labels.now.text.now) body.now code.now routine.old routine.new)
+        (λ why. spec.RefusesCode (lines.lines_in labels.now.text.now) body.now code.now routine.old why)) }
 {
     match code {
-        Code::Plain(instr) => told(routine.push(&instr)),
+        Code::Plain(instr) => told(routine.push(instr)),
         Code::Named(at, instr) => {
-            match label_named(routine, labels, name_at(body, at)) {
+            match label_named(routine, labels, name_at(body, *at)) {
                 None => Ok(Some(LineError::UnknownName)),
-                Some(label) => told(routine.push_to(&instr, label)),
+                Some(label) => told(routine.push_to(instr, label)),
             }
         }
         Code::Unsized => Ok(Some(LineError::SizeNeeded)),
@@ -145,12 +146,14 @@ fn place_label(
     routine: &mut Assembler,
     labels: &Labels<'_>,
     line: &[u8],
+    label: Option<&[u8]>,
 ) -> Result<Option<LineError>, AllocError>
+    requires { MatchOption label (lines.label_of line.now ≡ None) (λ name. lines.label_of line.now ≡ Some name.now) }
     ensures { IfOk result (λ refused. MatchOption refused
         (spec.AddsLabel (lines.lines_in labels.now.text.now) (lines.label_of line.now) routine.old routine.new)
         (λ why. spec.RefusesLabel (lines.lines_in labels.now.text.now) (lines.label_of line.now) routine.old why)) }
 {
-    let name = match label_of(line) {
+    let name = match label {
         None => return Ok(None),
         Some(name) => name,
     };
@@ -317,7 +320,7 @@ fn add_placed(
         let why = unfit_refusal(alloc, bits, round, body)?;
         return Ok(Some(why));
     }
-    push_code(routine, round.labels, placed, code)
+    push_code(routine, round.labels, placed, &code)
 }
 
 /// Adds what a text stands for that has no names of labels.
@@ -326,37 +329,34 @@ fn add_closed(
     routine: &mut Assembler,
     round: &Round<'_, '_, '_>,
     body: &[u8],
-    code: Code,
+    code: &Code,
 ) -> Result<Option<LineError>, AllocError>
-    ensures { IfOk result (λ refused. MatchOption refused (spec.AddsCode (view_of round.now).all body.now code routine.old routine.new)
-        (λ why. spec.RefusesClosed (view_of round.now) body.now code routine.old why)) }
+    ensures { IfOk result (λ refused. MatchOption refused (spec.AddsCode (view_of round.now).all body.now code.now routine.old routine.new)
+        (λ why. spec.RefusesClosed (view_of round.now) body.now code.now routine.old why)) }
 {
-    if is_nothing(&code) {
+    if is_nothing(code) {
         let why = unknown_in(alloc, routine.bits(), round.base, body)?;
         return Ok(Some(why));
     }
     push_code(routine, round.labels, body, code)
 }
 
-/// Adds an instruction.
-fn add_code(
+/// Adds what a text stands for.
+fn add_read(
     alloc: Global,
     routine: &mut Assembler,
     round: &Round<'_, '_, '_>,
     trace: &mut Trace,
-    known: &mut Known,
     body: &[u8],
+    code: &Code,
 ) -> Result<Option<LineError>, AllocError>
-    requires known { AreKnown known.old }
-    ensures told { IfOk result (λ refused. MatchOption refused
+    requires { spec.IsCode routine.old.bits (view_of round.now).base body.now code.now }
+    ensures { IfOk result (λ refused. MatchOption refused
         (spec.AddsStated (view_of round.now) body.now routine.old trace.old routine.new trace.new)
         (λ why. spec.RefusesStated (view_of round.now) body.now routine.old why)) }
-    ensures known { AreKnown known.new }
 {
-    let bits = routine.bits();
-    let code = code_by(alloc, known, bits, round.base, body)?;
     trace.after_data = false;
-    if is_whole(&code) {
+    if is_whole(code) {
         return push_code(routine, round.labels, body, code);
     }
     let placed = placed_text(alloc, round, body)?;
@@ -365,6 +365,29 @@ fn add_code(
     }
     trace.placed = true;
     add_placed(alloc, routine, round, body, &placed)
+}
+
+/// Adds an instruction that was not read before.
+fn add_code(
+    alloc: Global,
+    routine: &mut Assembler,
+    round: &Round<'_, '_, '_>,
+    trace: &mut Trace,
+    known: &mut Known,
+    body: &[u8],
+) -> Result<Option<LineError>, AllocError>
+    requires no_data { spec.width_of body.now ≡ 0 }
+    requires no_align { is_align_word (names.first_word body.now) ≡ false }
+    requires known { AreKnown known.old }
+    ensures told { IfOk result (λ refused. MatchOption refused
+        (spec.AddsStated (view_of round.now) body.now routine.old trace.old routine.new trace.new)
+        (λ why. spec.RefusesStated (view_of round.now) body.now routine.old why)) }
+    ensures known { AreKnown known.new }
+{
+    let bits = routine.bits();
+    let code = code_in(alloc, bits, round.base, body)?;
+    keep(known, bits, round.base, body, code);
+    add_read(alloc, routine, round, trace, body, &code)
 }
 
 /// Adds what the words of a line say that is no data.
@@ -376,6 +399,7 @@ fn add_further(
     known: &mut Known,
     body: &[u8],
 ) -> Result<Option<LineError>, AllocError>
+    requires no_data { spec.width_of body.now ≡ 0 }
     requires known { AreKnown known.old }
     ensures told { IfOk result (λ refused. MatchOption refused
         (spec.AddsFurther (view_of round.now) body.now routine.old trace.old routine.new trace.new)
@@ -407,6 +431,10 @@ fn add_words(
         (λ why. spec.RefusesWords (view_of round.now) body.now routine.old trace.old why)) }
     ensures known { AreKnown known.new }
 {
+    let bits = routine.bits();
+    if let Some(code) = code_before(known, bits, round.base, body) {
+        return add_read(alloc, routine, round, trace, body, code);
+    }
     let width = data_width(first_word(body));
     if width > 0 {
         add_data(alloc, routine, round, trace, width, behind_word(body))
@@ -440,7 +468,7 @@ fn add_body(
     add_words(alloc, routine, round, trace, known, &words)
 }
 
-/// Adds a line, which has this code.
+/// Adds a line, which has these parts.
 fn add_line(
     alloc: Global,
     routine: &mut Assembler,
@@ -448,20 +476,21 @@ fn add_line(
     trace: &mut Trace,
     known: &mut Known,
     line: &[u8],
-    code: &[u8],
+    parts: &LineParts<'_>,
 ) -> Result<Option<LineError>, AllocError>
-    requires code { code.now ≡ lines.code_of line.now }
+    requires shown { parts.now.shown.now ≡ lines.shown line.now }
+    requires label { MatchOption parts.now.label (lines.label_of parts.now.shown.now ≡ None) (λ name. lines.label_of parts.now.shown.now ≡ Some name.now) }
+    requires body { parts.now.body.now ≡ lines.body_of parts.now.shown.now }
     requires known { AreKnown known.old }
     ensures told { IfOk result (λ refused. MatchOption refused
         (spec.AddsLine (view_of round.now) line.now routine.old trace.old routine.new trace.new)
         (λ why. spec.RefusesLine (view_of round.now) line.now routine.old trace.old why)) }
     ensures known { AreKnown known.new }
 {
-    let line = trimmed(code);
-    let refused = place_label(alloc, routine, round.labels, line)?;
+    let refused = place_label(alloc, routine, round.labels, parts.shown, parts.label)?;
     match refused {
         Some(why) => Ok(Some(why)),
-        None => add_body(alloc, routine, round, trace, known, body_of(line)),
+        None => add_body(alloc, routine, round, trace, known, parts.body),
     }
 }
 
@@ -506,9 +535,9 @@ fn routine_of(
     let mut number: u64 = 0;
     'lines: while !rest.is_empty() {
         let (line, behind) = first_line(rest);
-        let code = code_of(line);
+        let parts = parts_of(code_of(line));
         number += 1;
-        let refused = match add_line(alloc, &mut routine, round, &mut trace, known, line, code) {
+        let refused = match add_line(alloc, &mut routine, round, &mut trace, known, line, &parts) {
             Ok(refused) => refused,
             Err(_) => return Err(AssembleError::NoMemory),
         };
@@ -517,7 +546,7 @@ fn routine_of(
                 let origin = Origin {
                     end: routine.len(),
                     number,
-                    column: code_column(code) as u64,
+                    column: parts.column as u64,
                 };
                 match note(&mut origins, origin) {
                     Ok(()) => rest = behind,

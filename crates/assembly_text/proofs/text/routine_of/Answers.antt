@@ -28,8 +28,8 @@ lines-preserved c =
     record {
       gone = gone_step c.args.bits v c.lines.rest.now line c.first_line.result.1.now c.lines.number c.lines.routine c.lines.trace
           c.lines.origins.lines.items c.lines.origins.end c.add_line.new.routine c.add_line.new.trace c.note.new.origins.lines.items c.note.new.origins.end
-          (record { end = c.len.result; number = c.lines.number + 1; column = c.code_column.result })
-          c.lines.invariant.gone c.first_line.ensures.lines step c.len.ensures refl (c.code_column.ensures c.first_line.result.0.now c.code_of-code.ensures) c.in-Ok-note.ensures.lines c.in-Ok-note.ensures.end;
+          (record { end = c.len.result; number = c.lines.number + 1; column = c.parts_of-parts.result.column })
+          c.lines.invariant.gone c.first_line.ensures.lines step c.len.ensures refl (c.parts_of-parts.ensures.column c.first_line.result.0.now c.code_of.ensures) c.in-Ok-note.ensures.lines c.in-Ok-note.ensures.end;
       few = omega (arith, c.lines.invariant.few, c.first_line.ensures.less);
       known = c.in-Ok-add_line.ensures.known;
     }
