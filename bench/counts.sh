@@ -88,9 +88,9 @@ line "an instruction of move" "$(whole "$moved" move "$bits" 400000 10000000)" "
 
 # the library for C, built once: capi/build.sh FOLDER/capi
 if [ ! -f "$folder/capi/libfeddurzai.a" ]; then "$top/capi/build.sh" "$folder/capi" >&2; fi
-for work in decode many text line encode; do
+for work in decode many text line encode effects; do
     flags=()
-    case $work in text) flags=(-DWITH_TEXT) ;; line) flags=(-DWITH_LINE) ;; encode) flags=(-DWITH_ENCODE) ;; many) flags=(-DWITH_MANY) ;; esac
+    case $work in text) flags=(-DWITH_TEXT) ;; line) flags=(-DWITH_LINE) ;; encode) flags=(-DWITH_ENCODE) ;; effects) flags=(-DWITH_EFFECTS) ;; many) flags=(-DWITH_MANY) ;; esac
     cc -O2 -o "$folder/c_$work" "$top/bench/peers/feddurzai.c" -I"$top/capi" "${flags[@]}" "$folder/capi/libfeddurzai.a"
     one=$(count "$folder/c_$work" "$part" "$bits" 1)
     two=$(count "$folder/c_$work" "$part" "$bits" 2)

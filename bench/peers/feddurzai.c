@@ -1,5 +1,5 @@
 // The library for C: the instruction as a struct, or with its Intel text (-DWITH_TEXT), both by one call (-DWITH_LINE), encoded again
-// (-DWITH_ENCODE), or the structs of many instructions by one call (-DWITH_MANY).
+// (-DWITH_ENCODE), what it reads and writes (-DWITH_EFFECTS), or the structs of many instructions by one call (-DWITH_MANY).
 #include "measure.h"
 #include "feddurzai.h"
 
@@ -9,6 +9,8 @@
 #define NAME "feddurzai in C, text by one call"
 #elif defined WITH_ENCODE
 #define NAME "feddurzai in C, encoded"
+#elif defined WITH_EFFECTS
+#define NAME "feddurzai in C, effects"
 #elif defined WITH_MANY
 #define NAME "feddurzai in C, many by one call"
 #else
@@ -57,6 +59,9 @@ static void sweep(const uint8_t *bytes, size_t size, int bits, struct counts *co
 #elif defined WITH_ENCODE
             uint8_t bytes_again[FEDDURZAI_MAX_LEN];
             counts->sum += (uint64_t)feddurzai_encode((uint32_t)bits, place, &instr, bytes_again, sizeof bytes_again);
+#elif defined WITH_EFFECTS
+            feddurzai_touched touched;
+            counts->sum += feddurzai_effects((uint32_t)bits, &instr, &touched) == 0 ? touched.flags_written : 0;
 #else
             counts->sum += instr.code;
 #endif
