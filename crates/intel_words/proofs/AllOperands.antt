@@ -158,7 +158,8 @@ absent-0 bits row instr f h =
     joined-empty (operand_text bits row instr 0) (separator false (nth_operand instr 1)) (from_1 bits row instr)
     (absent-text bits row instr 0 (nth_operand instr 0) h) (absent-separator (nth_operand instr 1) next) (absent-1 bits row instr f next)
 
-four-same : (a b c d : Option OperandText) (w x y z : OperandText) → a ≡ Some w → b ≡ Some x → c ≡ Some y → d ≡ Some z → four a b c d ≡ Some (w ∷ x ∷ y ∷ z ∷ [])
+-- four operands together
+pub four-same : (a b c d : Option OperandText) (w x y z : OperandText) → a ≡ Some w → b ≡ Some x → c ≡ Some y → d ≡ Some z → four a b c d ≡ Some (w ∷ x ∷ y ∷ z ∷ [])
 unfolding four
 four-same a b c d w x y z ea eb ec ed = rw (ea, eb, ec, ed) refl
 

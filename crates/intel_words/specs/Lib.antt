@@ -5,3 +5,4 @@ pub mod ReadNumbers
 pub mod ReadRegisters
 pub mod ReadAddresses
 pub mod ReadWords
+pub mod Pieces

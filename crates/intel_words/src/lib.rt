@@ -5,6 +5,7 @@ mod addresses;
 pub mod laws;
 mod numbers;
 mod operands;
+pub mod pieces;
 mod prefixes;
 pub mod reading;
 pub mod registers;
