@@ -163,7 +163,8 @@ name_or_counter bits name word i e = by_test (is_counter_jump name) refl
     by_test true h = inr ((bytes_eq-Decides name (codes "jrcxz")).0 h, shown_counter (text_address_size bits i) word (rw h at e))
     by_test false h = inl (sym (rw h at e))
 
-last_or_below : (k n : ℕ) → k < suc n → (k ≡ n) ⊎ (k < n)
+-- below a successor
+pub last_or_below : (k n : ℕ) → k < suc n → (k ≡ n) ⊎ (k < n)
 last_or_below zero zero h = inl refl
 last_or_below zero (suc n) h = inr (omega arith)
 last_or_below (suc k) zero h = absurd (omega arith)

@@ -1,6 +1,7 @@
 -- Each code of the table lies in the bucket of its name.
-use Rattle.std.proofs.Common.{◌≡◌, inl, inr, ℕ, zero, suc, ◌+◌, ◌-◌, ◌*◌, ◌%◌, ◌<◌, ◌≤◌, Bool, true, false, ◌&&◌, ◌||◌, ◌==◌, List, [], ◌∷◌, length, get_or, drop, Option, Some, refl, ap, subst, arith, slice_get, eqb-true, add-one, drop-cons}
+use Rattle.std.proofs.Common.{◌≡◌, inl, inr, ℕ, zero, suc, ◌+◌, ◌-◌, ◌*◌, ◌%◌, ◌<◌, ◌≤◌, Bool, true, false, ◌&&◌, ◌||◌, ◌==◌, List, [], ◌∷◌, length, get_or, drop, Option, Some, refl, ap, sym, ◌∙◌, subst, arith, slice_get, eqb-true, ltb-true, leb-true, nat_lt, nat_le, add-one, drop-cons}
 use Rattle.std.specs.Prelude.{unwrap_or}
+use Rattle.std.specs.List.{list_all}
 use Rattle.std.proofs.lemmas.Bool.{or_cases, and_parts}
 use Rattle.opcode_rows.specs.declared.generated_spots.TheConstants.{ROWS}
 use Rattle.std.proofs.lemmas.Option.{slice_get_within}
@@ -44,6 +45,29 @@ among code index n h =
     let k = among_first code n (drop index order) h in
     let lt : k.0 < n = k.1 in
     (index + k.0, omega arith, omega arith, get-dropped index k.0 order code k.2)
+
+-- ---- the numbers in the tables
+
+at_each : (p : ℕ → Bool) (xs : List ℕ) (k x : ℕ) → list_all p xs ≡ true → slice_get xs k ≡ Some x → p x ≡ true
+at_each p [] k x h e = cc
+at_each p (y ∷ ys) zero x h e = let same : y ≡ x = cc in ap p (sym same) ∙ (and_parts (p y) (list_all p ys) h).0
+at_each p (y ∷ ys) (suc k) x h e = at_each p ys k x (and_parts (p y) (list_all p ys) h).1 e
+
+all_codes : list_all (λ (code : ℕ). nat_lt code ROWS) order ≡ true
+unfolding order
+all_codes = refl
+
+all_starts : list_all (λ (index : ℕ). nat_le index ROWS) starts ≡ true
+unfolding starts
+all_starts = refl
+
+-- each code in the order is that of a row
+pub ordered_below : (k code : ℕ) → slice_get order k ≡ Some code → code < ROWS
+ordered_below k code e = ltb-true code ROWS (at_each (λ (c : ℕ). nat_lt c ROWS) order k code all_codes e)
+
+-- each bucket begins within the order
+pub start_within : (k index : ℕ) → slice_get starts k ≡ Some index → index ≤ ROWS
+start_within k index e = leb-true index ROWS (at_each (λ (i : ℕ). nat_le i ROWS) starts k index all_starts e)
 
 -- ---- every code
 

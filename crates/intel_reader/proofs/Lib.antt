@@ -1,3 +1,4 @@
+pub mod Encoded
 pub mod Complete
 pub mod FourPlaces
 pub mod Flags
@@ -14,5 +15,7 @@ pub mod Choosing
 pub mod TakenRows
 pub mod LeastLengths
 pub mod SizedWords
+pub mod SizeSets
+pub mod PossibleSizes
 pub mod Apart
 pub mod RowNames

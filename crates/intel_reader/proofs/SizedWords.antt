@@ -22,7 +22,7 @@ size_shown (Address a) = a.size
 size_shown _ = NoSize
 
 -- an address that an instruction of a row shows has the size word of the row
-shown_sized : (bits : Bits) (row : Row) (i : Instr) (n : ℕ) (o : Operand) (a : AddressText) → operand_of bits row i n o ≡ Address a → a.size ≡ size_word_of row n
+pub shown_sized : (bits : Bits) (row : Row) (i : Instr) (n : ℕ) (o : Operand) (a : AddressText) → operand_of bits row i n o ≡ Address a → a.size ≡ size_word_of row n
 unfolding operand_of size_shown size_word_of
 shown_sized bits row i n AbsentOperand a h = absurd cc
 shown_sized bits row i n (RegOperand r) a h = absurd cc

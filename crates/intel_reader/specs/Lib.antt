@@ -7,3 +7,4 @@ pub mod Lengths
 pub mod Possible
 pub mod Mnemonics
 pub mod SizeWords
+pub mod Sizes

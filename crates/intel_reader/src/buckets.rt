@@ -30,14 +30,16 @@ fn bucket(name: &[u8]) -> u16
 /// Returns the start of a bucket.
 fn start_at(bucket: u16) -> u16
     requires { bucket < 1025 }
-    ensures { slice_get starts bucket ≡ Some result }
+    ensures start { slice_get starts bucket ≡ Some result }
+    ensures within { result ≤ ROWS }
 {
     STARTS[bucket as usize]
 }
 
 /// Returns indices that include every code whose row has this name, a mnemonic in lower case, and few others.
 pub fn indices_of(name: &[u8]) -> Indices
-    ensures { (code : ℕ) → code < ROWS → name_of code ≡ name.now → (k : ℕ) × (result.first ≤ k) × (k < result.end) × (slice_get order k ≡ Some code) }
+    ensures within { result.end ≤ ROWS }
+    ensures found { (code : ℕ) → code < ROWS → name_of code ≡ name.now → (k : ℕ) × (result.first ≤ k) × (k < result.end) × (slice_get order k ≡ Some code) }
 {
     let bucket = bucket(name);
     Indices {
@@ -49,7 +51,8 @@ pub fn indices_of(name: &[u8]) -> Indices
 /// Returns the code at an index.
 pub fn code_at(index: u16) -> Code
     requires { index < ROWS }
-    ensures { slice_get order index ≡ Some result.0 }
+    ensures at { slice_get order index ≡ Some result.0 }
+    ensures below { result.0 < ROWS }
 {
     Code(ORDER[index as usize])
 }

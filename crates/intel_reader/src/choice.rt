@@ -277,20 +277,14 @@ fn with_index(
     word: &[u8],
     index: u16,
 )
+    requires index { index < ROWS }
     requires read { (b : Assembly) (row : Row) → IsCandidate bits ip text.now b → slice_get table b.instr.code.0 ≡ Some row
         → words.now ≡ words_of bits row (name_of b.instr.code.0) b.instr }
     requires named { (b : Assembly) → IsCandidate bits ip text.now b → word.now ≡ name_text bits (name_of b.instr.code.0) b.instr }
     ensures progress { IsProgress bits ip text.now best.old best.new }
     ensures covers { (b : Assembly) → IsCandidate bits ip text.now b → slice_get order index ≡ Some b.instr.code.0 → LeadsChoice best.new b }
 {
-    if index >= ROWS {
-        return;
-    }
-    let code = code_at(index);
-    if code.0 >= ROWS {
-        return;
-    }
-    with_named(best, bits, ip, text, words, word, code);
+    with_named(best, bits, ip, text, words, word, code_at(index));
 }
 
 /// What was found, with the candidates of the codes of a name.

@@ -4,10 +4,12 @@
 //! the shortest plain spelling, then with the lowest code, then with the lowest bytes.
 #![tactic(auto)]
 
-ghost use Rattle.std.specs.Prelude.{◌≡◌, ◌↔◌, IfOk, IsErr, IsTrue};
+ghost use Rattle.std.specs.Prelude.{◌≡◌, ◌↔◌, IfOk, IsErr, IsTrue, Ok};
 ghost use Rattle.opcode_rows.specs.Allowed.{is_well_formed};
 ghost use Rattle.intel_text.specs.Text as printed;
-ghost use Rattle.intel_reader.specs.Assembled.{IsAssembled, AssemblesTo, IsNoText};
+ghost use Rattle.encoder.specs.Encoding.{encoding};
+ghost use Rattle.intel_reader.specs.Assembled.{IsAssembled, AssemblesTo, IsFirst, IsNoText};
+ghost use Rattle.intel_reader.specs.Choice.{assembly_of};
 
 mod buckets;
 mod candidate;
@@ -20,9 +22,12 @@ pub mod mnemonics;
 mod operands;
 mod possible;
 mod size_words;
+pub mod sizes;
 
 use arrayvec::ArrayVec;
+pub use choice::Found;
 use choice::first_of;
+use encoder::laws::{encodings_are_plain, plain_spelling_is_one, ten_conditions_are_exact};
 use thiserror::Error;
 use x86_values::{Bits, Instr};
 
@@ -52,6 +57,26 @@ pub fn read_intel(bits: Bits, ip: u64, text: &[u8]) -> Result<Instr, TextError>
 {
     match first_of(bits, ip, text) {
         Some(found) => Ok(found.instr),
+        None => Err(TextError::NoInstruction),
+    }
+}
+
+/// Returns the instruction that an Intel text stands for in a mode at an address, with the bytes of its plain spelling there: what [`read_intel`] and
+/// [`assemble`] return. Errors are those of [`read_intel`].
+pub fn read_with_bytes(bits: Bits, ip: u64, text: &[u8]) -> Result<Found, TextError>
+    ensures assembled { IfOk result (λ f. IsFirst bits ip text.now (assembly_of f)) }
+    ensures encoded { IfOk result (λ f. encoding bits ip f.instr ≡ Ok f.bytes.items) }
+    ensures none { IsErr result ↔ IsNoText bits ip text.now }
+{
+    encodings_are_plain();
+    ten_conditions_are_exact();
+    plain_spelling_is_one();
+    match first_of(bits, ip, text) {
+        Some(found) => {
+            // Four operands, as the proof has to know.
+            let [_first, _second, _third, _fourth] = found.instr.ops;
+            Ok(found)
+        }
         None => Err(TextError::NoInstruction),
     }
 }

@@ -11,16 +11,11 @@ use opcode_rows::{ROWS, name as name_of_row};
 
 /// Whether the code at an index in the order by names has this name.
 fn is_named_at(index: u16, name: &[u8]) -> bool
+    requires { index < ROWS }
     ensures named { result ≡ true → spec.is_named_below ROWS name.now ≡ true }
     ensures other { result ≡ false → (code : ℕ) → code < ROWS → slice_get order index ≡ Some code → name_of code ≡ name.now → ⊥ }
 {
-    if index >= ROWS {
-        return false;
-    }
     let code = code_at(index);
-    if code.0 >= ROWS {
-        return false;
-    }
     name_of_row(code).as_bytes() == name
 }
 

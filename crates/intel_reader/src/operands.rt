@@ -138,18 +138,11 @@ fn takes(code: Code, asked: u64) -> bool
     flags_of(code) & asked == asked
 }
 
-/// Returns whether the row of the code at an index exists in a mode and takes operands of four classes, given as the flags of [`flags_of_classes`];
-/// false if there is no code at the index.
+/// Returns whether the row of the code at an index exists in a mode and takes operands of four classes, given as the flags of [`flags_of_classes`].
 pub fn takes_at(index: u16, asked: u64) -> bool
+    requires { index < ROWS }
     ensures { (bits : Bits) (a b c d : OperandClass) (code : ℕ) (row : Row) → asked ≡ spec.number_of (spec.asked_flags bits a b c d)
         → slice_get order index ≡ Some code → slice_get table code ≡ Some row → result ≡ spec.takes bits row a b c d }
 {
-    if index >= ROWS {
-        return false;
-    }
-    let code = code_at(index);
-    if code.0 >= ROWS {
-        return false;
-    }
-    takes(code, asked)
+    takes(code_at(index), asked)
 }

@@ -47,9 +47,9 @@ fn size_of_far(size: Size) -> SizeName
     }
 }
 
-/// The size word of operand `n` of the row.
+/// Returns the size word of operand `n` of the row.
 #[tactic(auto, unfolding(intel_words::specs::Words::size_word_of))]
-fn size_word_of(row: &Row, n: usize) -> SizeName
+pub(crate) fn size_word_of(row: &Row, n: usize) -> SizeName
     requires number { n < 4 }
     requires sound { IsTrue (sound row.now) }
     ensures { result ≡ words.size_word_of row.now n }

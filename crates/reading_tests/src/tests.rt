@@ -12,6 +12,7 @@ mod option_tests;
 mod piece_tests;
 mod read_bytes;
 mod row_tests;
+mod size_tests;
 mod style_tests;
 mod table_tests;
 mod tail_tests;

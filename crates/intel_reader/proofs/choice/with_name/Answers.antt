@@ -8,7 +8,7 @@ use Rattle.intel_reader.proofs.choice.with_name.Goals as goal
 pub returns-clause-covers : goal.returns-clause-covers
 returns-clause-covers c = λ b k e.
     let below : b.instr.code.0 < ROWS = code_below c.args.bits c.args.ip c.args.text.now b k in
-    let at = c.indices_of-indices.ensures b.instr.code.0 below e in
+    let at = c.indices_of-indices.ensures.found b.instr.code.0 below e in
     c.loop-index.invariant.led b k at.0 at.1 (omega (arith, at.2, c.loop-index-test.false)) at.3
 
 pub loop-index-preserved : goal.loop-index-preserved

@@ -8,6 +8,6 @@ returns-then-is_named_at c = named_is_mnemonic c.args.name.now (c.is_named_at.en
 pub returns : goal.returns
 returns c = other_mnemonic c.args.name.now c.is_counter_word.result
     (λ code lt e.
-    let at = c.indices_of-indices.ensures code lt e in
+    let at = c.indices_of-indices.ensures.found code lt e in
     c.loop-index.invariant code lt e at.0 at.1 (omega (arith, at.2, c.loop-index-test.false)) at.3)
     c.is_counter_word.ensures
