@@ -5,4 +5,5 @@ pub mod StandIn
 pub mod Four
 pub mod Placing
 pub mod AtLabels
+pub mod ReadyItems
 pub mod NoSlots

@@ -1,5 +1,5 @@
 -- What is added to a routine, and when nothing is.
-use Rattle.std.specs.Prelude.{ℕ, nat_lt, is_none, is_some, if◌then◌else◌, List, [], ◌∷◌, ◌++◌, length, map, replicate, slice_set, unwrap_or, Option, Some, None, Result, Ok, Err, nat_le, ◌+◌}
+use Rattle.std.specs.Prelude.{◌≡◌, ℕ, ◌<◌, nat_lt, is_none, is_some, if◌then◌else◌, List, [], ◌∷◌, ◌++◌, length, map, replicate, slice_set, unwrap_or, Option, Some, None, Result, Ok, Err, nat_le, ◌+◌}
 use Rattle.x86_values.specs.declared.Bits.{Bits}
 use Rattle.x86_values.specs.declared.Instr.{Instr}
 use Rattle.plain_spelling.specs.declared.NoSpelling.{NoSpelling}
@@ -78,6 +78,10 @@ first_of None other = other
 unfoldable pub push_fault : Bits → ℕ → List (Option ℕ) → Instr → Option ℕ → Option BuildError
 push_fault bits count labels i aim =
     if nat_lt count 65536 then first_of (label_fault labels i aim) (encoding_refusal (encoding bits (own_address i) i)) else Some TooMany
+
+-- nothing but its encoding is in the way of an instruction: there are few others, and it can go to its label
+abbrev pub IsOpen : ℕ → List (Option ℕ) → Instr → Option ℕ → Type 0
+IsOpen count labels i aim = (count < 65536) × (label_fault labels i aim ≡ None)
 
 -- why none is added to a routine
 abbrev pub push_refusal : RoutineState → Instr → Option ℕ → Option BuildError

@@ -1,6 +1,7 @@
 -- Routines: instructions and bytes of data, the labels that some instructions go to, and where the labels stand.
 use Rattle.std.specs.Prelude.{◌≡◌, ◌⊎◌, ℕ, ◌+◌, ◌≤◌, ◌==◌, nat_lt, Bool, true, false, not, ◌&&◌, if◌then◌else◌, List, [], ◌∷◌, ◌++◌, length, slice_get, slice_index_or, unwrap_or, All, Option, Some, None}
 use Rattle.std.specs.List.{list_any, AllZip}
+use Rattle.arrayvec.specs.ArrayVec.{ArrayVec}
 use Rattle.x86_values.specs.declared.Bits.{Bits}
 use Rattle.branch_sizes.specs.declared.plan.Goal.{Goal}
 use Rattle.branch_sizes.specs.declared.plan.Goal.TheVariants.{Inside}
@@ -9,6 +10,7 @@ use Rattle.move_goals.specs.MovedTargets.Targets.{target_of}
 use Rattle.move_goals.specs.declared.items.Placed.{Placed}
 use Rattle.move_goals.specs.Items.{IsPlaced, first_below, item_at, one_span}
 use Rattle.move_goals.specs.Plan.{plan_with, kept_goal}
+use Rattle.move_goals.specs.Ready.{MayBeReady}
 use Rattle.code_assembler.specs.StandIn.{IsFilled, stand_in}
 
 -- what contracts see of an `Assembler`: the mode; the items in order, which are instructions and bytes of data; for each the number of the label that it
@@ -31,6 +33,15 @@ pub record IsRoutine (s : RoutineState) : Type 0 where
   pub placed : All (IsPlaced s.bits) s.items
   pub few : length s.items ≤ 65536
   pub few_labels : length s.labels ≤ 65536
+
+-- some bytes are those of an item wherever it stands, or none
+abbrev pub HasReady : Bits → Placed → ArrayVec ℕ → Type 0
+HasReady bits item ready = MayBeReady bits item.instr ready.items
+
+-- what an `Assembler` holds: a routine, and for each item the bytes that are ready
+pub record IsAssembler (s : RoutineState) (ready : List (ArrayVec ℕ)) : Type 0 where
+  pub routine : IsRoutine s
+  pub bytes : AllZip (HasReady s.bits) s.items ready
 
 -- ---- labels
 

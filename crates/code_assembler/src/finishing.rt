@@ -3,6 +3,7 @@
 ghost use Rattle.std.specs.Prelude.{◌≡◌, ◌≤◌, ◌<◌, ◌+◌, ◌++◌, [], ◌∷◌, length, IfOk, IsTrue, None};
 ghost use Rattle.std.specs.List.{list_any};
 ghost use Rattle.move_goals.specs.BranchForms.Choices.{choices_of};
+ghost use Rattle.move_goals.specs.MovedTargets.Targets.{target_of};
 ghost use Rattle.move_goals.specs.Items.{ArePlaced, item_at, one_span};
 ghost use Rattle.move_goals.specs.Plan as plan;
 ghost use Rattle.move_goals.specs.Plan.{branch_with, plan_with};
@@ -17,7 +18,7 @@ use crate::assembled::{Assembled, place_of};
 use crate::error::FinishError;
 use crate::filling::{cut_end, put_data};
 use crate::laws_below::laws_below;
-use crate::lists::longer;
+use crate::lists::{longer, longer_ready};
 use crate::routine::{Assembler, MOST};
 use crate::stand_in::stand_in;
 use arrayvec::ArrayVec;
@@ -25,8 +26,8 @@ use block_encoder::{MovedBlocks, PlanError, move_with_ready};
 use branch_sizes::{Branch, Choice, Goal, Plan};
 use move_goals::branch_forms::{choices_of, choices_without_target};
 use move_goals::moved_targets::laws::spellings_are_moved;
-use move_goals::moved_targets::target_of;
-use move_goals::{Placed, ready_bytes, ready_of};
+use move_goals::moved_targets::{independent_bytes, target_of};
+use move_goals::{Placed, ready_of};
 use std::alloc::{AllocError, Global};
 use x86_values::{Bits, Instr};
 
@@ -117,11 +118,32 @@ fn stand_goal(count: usize, place: Option<u32>, other: Goal) -> Goal
     }
 }
 
-/// The goal of an instruction: the one that its label precedes, or its own target.
-fn aim_goal(labels: &[Option<u32>], count: usize, item: &Placed, aim: Option<u32>) -> Goal
+/// The goal of an instruction's own target. One that has ready bytes has no target.
+#[inline]
+fn own_goal(bits: Bits, instr: &Instr, ready: &[u8]) -> Goal
+    requires { MayBeReady bits instr.now ready.now }
+    ensures { result ≡ plan.kept_goal (target_of instr.now) }
+{
+    if ready.is_empty() {
+        kept_goal(target_of(instr))
+    } else {
+        Goal::None
+    }
+}
+
+/// The goal of an instruction, which has these ready bytes: the one that its label precedes, or its own target.
+fn aim_goal(
+    bits: Bits,
+    labels: &[Option<u32>],
+    count: usize,
+    item: &Placed,
+    aim: Option<u32>,
+    ready: &[u8],
+) -> Goal
+    requires { MayBeReady bits item.now.instr ready.now }
     ensures { result ≡ spec.aim_goal labels.now count item.now aim }
 {
-    let own = kept_goal(target_of(&item.instr));
+    let own = own_goal(bits, &item.instr, ready);
     match aim {
         None => own,
         Some(label) => stand_goal(count, place_of(labels, label), own),
@@ -158,7 +180,7 @@ fn branch_at(
     let item = &items[k];
     Branch {
         choices: forms_of(bits, &item.instr, ready),
-        goal: aim_goal(labels, items.len(), item, aims[k]),
+        goal: aim_goal(bits, labels, items.len(), item, aims[k], ready),
     }
 }
 
@@ -300,16 +322,20 @@ impl Assembler {
         requires { length self.now.items < 65536 }
         ensures { IfOk result (λ whole. whole ≡ with_byte self.now 0xCC) }
     {
-        let items = longer(alloc, &self.items, stand_in(self.bits))?;
+        let item = stand_in(self.bits);
+        let last = independent_bytes(self.bits, &item.instr);
+        let items = longer(alloc, &self.items, item)?;
         let aims = longer(alloc, &self.aims, None)?;
         let filled = longer(alloc, &self.filled, Some(END))?;
         let labels = copy_of(alloc, &self.labels)?;
+        let ready = longer_ready(alloc, &self.ready, last)?;
         Ok(Assembler {
             bits: self.bits,
             items,
             aims,
             filled,
             labels,
+            ready,
         })
     }
 
@@ -325,18 +351,17 @@ impl Assembler {
         ensures { IsLaidAnswer self.now base count result }
     {
         laws_below();
-        let ready = ready_bytes(alloc, self.bits, &self.items)?;
         let plan = plan_at(
             alloc,
             self.bits,
             &self.labels,
             &self.aims,
             &self.items,
-            &ready,
+            &self.ready,
             base,
         )?;
         let labels = copy_of(alloc, &self.labels)?;
-        let moved = move_with_ready(alloc, self.bits, &self.items, &plan, &ready);
+        let moved = move_with_ready(alloc, self.bits, &self.items, &plan, &self.ready);
         assembled_of(alloc, moved, &self.filled, labels, base, count)
     }
 }

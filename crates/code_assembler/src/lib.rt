@@ -10,10 +10,12 @@ mod label;
 mod laws_below;
 mod lists;
 mod near;
+mod prepared;
 mod routine;
 mod stand_in;
 
 pub use assembled::Assembled;
 pub use error::{BuildError, FinishError};
 pub use label::Label;
+pub use prepared::{Prepared, prepared_from};
 pub use routine::Assembler;

@@ -1,25 +1,24 @@
 //! Routines as they are put together.
 
 ghost use Rattle.std.specs.Prelude.{◌≡◌, ◌⊎◌, ◌<◌, ◌≤◌, ◌+◌, ◌++◌, [], ◌∷◌, IfOk, IfErr, IfSome, MatchOption, OnOk, OnErr, Err, Some, None, length, map, replicate, vec_len, vec_capacity};
-ghost use Rattle.encoder.specs.Encoding.{encoding};
-ghost use Rattle.move_goals.specs.Items.{IsPlaced};
+ghost use Rattle.x86_values.specs.declared.Bits.{Bits};
 ghost use Rattle.code_assembler.specs.declared.error.BuildError.TheVariants.{Memory};
 ghost use Rattle.code_assembler.specs.Routine.{no_lines};
 ghost use Rattle.code_assembler.specs.Built as spec;
-ghost use Rattle.code_assembler.specs.Built.{with_label, with_labels, with_place, with_item, with_bytes, label_refusal, labels_refusal, place_refusal, push_refusal, bytes_refusal};
+ghost use Rattle.code_assembler.specs.Built.{with_label, with_labels, with_place, with_item, with_bytes, label_refusal, labels_refusal, place_refusal, push_refusal, bytes_refusal, IsOpen};
 
 use crate::assembled::place_of;
 use crate::error::BuildError;
 use crate::label::Label;
-use crate::laws_below::laws_below;
-use crate::lists::{append, append_bytes, fill};
+use crate::lists::{append, append_bytes, copy_of_ready, fill, fill_ready};
+use crate::prepared::Prepared;
 use crate::stand_in::stand_in;
-use encoder::{NoSpelling, encode};
+use arrayvec::ArrayVec;
 use move_goals::Placed;
-use move_goals::moved_targets::target_of;
+use move_goals::moved_targets::{independent_bytes, target_of};
 use std::alloc::{AllocError, Global};
 use std::marker::Model;
-use x86_values::{Bits, Instr};
+use x86_values::{Bits, Instr, same_bits};
 
 /// How many labels, and how many items, a routine has at most.
 pub(crate) const MOST: usize = 65_536;
@@ -47,35 +46,18 @@ pub struct Assembler {
     pub(crate) aims: Vec<Option<u32>>,
     pub(crate) filled: Vec<Option<u8>>,
     pub(crate) labels: Vec<Option<u32>>,
+    pub(crate) ready: Vec<ArrayVec<u8, 15>>,
 }
 
 impl Model for Assembler {
-    ghost use Rattle.code_assembler.specs.Routine.{RoutineState, IsRoutine};
+    ghost use Rattle.code_assembler.specs.Routine.{RoutineState, IsAssembler};
 
     ghost Value = { RoutineState };
 
     ghost view = { λ a. record { bits = a.bits; items = a.items.items; aims = a.aims.items; filled = a.filled.items; labels = a.labels.items } };
 
-    ghost invariant = { λ a. IsRoutine (record { bits = a.bits; items = a.items.items; aims = a.aims.items; filled = a.filled.items; labels = a.labels.items }) };
-}
-
-/// The instruction as one that stands at its own target, or why it has no encoding there.
-fn item_of(bits: Bits, instr: &Instr) -> Result<Placed, NoSpelling>
-    ensures value { IfOk result (λ item. item ≡ spec.item_of bits instr.now) }
-    ensures placed { IfOk result (λ item. IsPlaced bits item) }
-    ensures encoded { IfOk result (λ _. spec.encoding_refusal (encoding bits (spec.own_address instr.now) instr.now) ≡ None) }
-    ensures refused { IfErr result (λ why. spec.encoding_refusal (encoding bits (spec.own_address instr.now) instr.now) ≡ Some (spec.not_encoded why)) }
-{
-    laws_below();
-    let ip = target_of(instr).unwrap_or(0);
-    match encode(bits, ip, instr) {
-        Ok(bytes) => Ok(Placed {
-            ip,
-            len: bytes.len() as u8,
-            instr: *instr,
-        }),
-        Err(why) => Err(why),
-    }
+    ghost invariant = { λ a. IsAssembler (record { bits = a.bits; items = a.items.items; aims = a.aims.items; filled = a.filled.items; labels = a.labels.items })
+        a.ready.items };
 }
 
 /// Why an instruction cannot go to a label, if that is so.
@@ -96,31 +78,21 @@ fn label_fault(labels: &[Option<u32>], instr: &Instr, aim: Option<u32>) -> Optio
     }
 }
 
-/// The instruction to be added to `count` others, or why it is not added.
+/// Why an instruction is not added to `count` others, whatever its encoding.
 #[tactic(auto, using(std::proofs::lemmas::Bool::Decides::nat_tests), unfolding(crate::specs::Built::push_fault))]
-fn item_for(
-    bits: Bits,
+fn fault_before(
     count: usize,
     labels: &[Option<u32>],
     instr: &Instr,
     aim: Option<u32>,
-) -> Result<Placed, BuildError>
-    ensures value { IfOk result (λ item. item ≡ spec.item_of bits instr.now) }
-    ensures placed { IfOk result (λ item. IsPlaced bits item) }
-    ensures added { IfOk result (λ _. spec.push_fault bits count labels.now instr.now aim ≡ None) }
-    ensures few { IfOk result (λ _. count < 65536) }
-    ensures refused { IfErr result (λ why. spec.push_fault bits count labels.now instr.now aim ≡ Some why) }
+) -> Option<BuildError>
+    ensures { MatchOption result (IsOpen count labels.now instr.now aim)
+        (λ why. (bits : Bits) → spec.push_fault bits count labels.now instr.now aim ≡ Some why) }
 {
     if count >= MOST {
-        return Err(BuildError::TooMany);
+        return Some(BuildError::TooMany);
     }
-    if let Some(why) = label_fault(labels, instr, aim) {
-        return Err(why);
-    }
-    match item_of(bits, instr) {
-        Ok(item) => Ok(item),
-        Err(why) => Err(BuildError::NotEncoded { why }),
-    }
+    label_fault(labels, instr, aim)
 }
 
 impl Assembler {
@@ -134,6 +106,7 @@ impl Assembler {
             aims: Vec::new(alloc),
             filled: Vec::new(alloc),
             labels: Vec::new(alloc),
+            ready: Vec::new(alloc),
         }
     }
 
@@ -156,6 +129,7 @@ impl Assembler {
             aims: Vec::new(alloc),
             filled: Vec::new(alloc),
             labels,
+            ready: Vec::new(alloc),
         })
     }
 
@@ -171,6 +145,26 @@ impl Assembler {
         ensures { result ≡ length self.now.items }
     {
         self.items.len()
+    }
+
+    /// Makes room for so many more instructions and bytes of data, so that adding them allocates no more. Nothing else changes.
+    ///
+    /// ```
+    /// let mut routine = Assembler::new(rt.alloc(), Bits::B64);
+    /// routine.reserve(100)?;
+    /// println!(rt; "{}", routine.len())?; // 0
+    /// ```
+    ///
+    /// Errors: `Memory`.
+    pub fn reserve(&mut self, count: usize) -> Result<(), BuildError>
+        ensures state { self.new ≡ self.old }
+        ensures cause { IfErr result (λ why. why ≡ Memory) }
+    {
+        self.items.reserve(count)?;
+        self.aims.reserve(count)?;
+        self.filled.reserve(count)?;
+        self.ready.reserve(count)?;
+        Ok(())
     }
 
     /// Returns how many labels there are.
@@ -233,24 +227,57 @@ impl Assembler {
         Ok(())
     }
 
+    /// Adds an instruction that was prepared for the mode, with a label to go to or none.
+    fn add(&mut self, it: &Prepared, aim: Option<u32>) -> Result<(), BuildError>
+        requires mode { self.old.bits ≡ it.now.bits }
+        requires few { length self.old.items < 65536 }
+        ensures state { OnOk result (self.new ≡ with_item self.old it.now.instr aim) }
+        ensures cause { IfErr result (λ why. why ≡ Memory) }
+        ensures unchanged { OnErr result (self.new ≡ self.old) }
+    {
+        self.items.reserve(1)?;
+        self.aims.reserve(1)?;
+        self.filled.reserve(1)?;
+        self.ready.reserve(1)?;
+        append(&mut self.items, it.item);
+        append(&mut self.aims, aim);
+        append(&mut self.filled, None);
+        append(&mut self.ready, copy_of_ready(&it.ready));
+        Ok(())
+    }
+
     /// Adds an instruction, with a label to go to or none.
+    #[tactic(auto, unfolding(crate::specs::Built::push_fault))]
     fn push_aimed(&mut self, instr: &Instr, aim: Option<u32>) -> Result<(), BuildError>
         ensures state { OnOk result (self.new ≡ with_item self.old instr.now aim) }
         ensures refused { IfSome (push_refusal self.old instr.now aim) (λ why. result ≡ Err why) }
         ensures cause { IfErr result (λ why. (push_refusal self.old instr.now aim ≡ Some why) ⊎ (why ≡ Memory)) }
         ensures unchanged { OnErr result (self.new ≡ self.old) }
     {
-        let item = match item_for(self.bits, self.items.len(), &self.labels, instr, aim) {
-            Ok(item) => item,
-            Err(why) => return Err(why),
-        };
-        self.items.reserve(1)?;
-        self.aims.reserve(1)?;
-        self.filled.reserve(1)?;
-        append(&mut self.items, item);
-        append(&mut self.aims, aim);
-        append(&mut self.filled, None);
-        Ok(())
+        if let Some(why) = fault_before(self.items.len(), &self.labels, instr, aim) {
+            return Err(why);
+        }
+        match Prepared::new(self.bits, instr) {
+            Ok(it) => self.add(&it, aim),
+            Err(why) => Err(BuildError::NotEncoded { why }),
+        }
+    }
+
+    /// Adds an instruction that was prepared, with a label to go to or none.
+    #[tactic(auto, unfolding(crate::specs::Built::push_fault))]
+    fn push_prepared_aimed(&mut self, it: &Prepared, aim: Option<u32>) -> Result<(), BuildError>
+        ensures state { OnOk result (self.new ≡ with_item self.old it.now.instr aim) }
+        ensures refused { IfSome (push_refusal self.old it.now.instr aim) (λ why. result ≡ Err why) }
+        ensures cause { IfErr result (λ why. (push_refusal self.old it.now.instr aim ≡ Some why) ⊎ (why ≡ Memory)) }
+        ensures unchanged { OnErr result (self.new ≡ self.old) }
+    {
+        if !same_bits(self.bits, it.bits) {
+            return self.push_aimed(&it.item.instr, aim);
+        }
+        match fault_before(self.items.len(), &self.labels, &it.item.instr, aim) {
+            Some(why) => Err(why),
+            None => self.add(it, aim),
+        }
     }
 
     /// Adds an instruction. If it is a near branch, or has an operand at RIP or EIP, it goes to that address, wherever the routine lies.
@@ -280,6 +307,49 @@ impl Assembler {
         self.push_aimed(instr, Some(label.number))
     }
 
+    /// Adds an instruction that was prepared, as [`Assembler::push`] adds it. It is not encoded again if it was prepared for the mode of the routine.
+    ///
+    /// ```
+    /// let mut routine = Assembler::new(rt.alloc(), Bits::B64);
+    /// let ret = Prepared::new(Bits::B64, &read_intel(Bits::B64, 0, b"ret")?)?;
+    /// routine.push_prepared(&ret)?;
+    /// println!(rt; "{}", routine.len())?; // 1
+    /// ```
+    ///
+    /// Errors: those of [`Assembler::push`]. Nothing changes then.
+    pub fn push_prepared(&mut self, it: &Prepared) -> Result<(), BuildError>
+        ensures state { OnOk result (self.new ≡ with_item self.old it.now.instr None) }
+        ensures refused { IfSome (push_refusal self.old it.now.instr None) (λ why. result ≡ Err why) }
+        ensures cause { IfErr result (λ why. (push_refusal self.old it.now.instr None ≡ Some why) ⊎ (why ≡ Memory)) }
+        ensures unchanged { OnErr result (self.new ≡ self.old) }
+    {
+        self.push_prepared_aimed(it, None)
+    }
+
+    /// Adds an instruction that was prepared and goes to a label, as [`Assembler::push_to`] adds it. It is not encoded again if it was prepared for the
+    /// mode of the routine.
+    ///
+    /// ```
+    /// let mut routine = Assembler::new(rt.alloc(), Bits::B64);
+    /// let jump = Prepared::new(Bits::B64, &read_intel(Bits::B64, 0, b"jmp 0x0")?)?;
+    /// let end = routine.label()?;
+    /// routine.push_prepared_to(&jump, end)?;
+    /// routine.push_prepared_to(&jump, end)?;
+    /// routine.place(end)?;
+    /// let made = routine.finish(rt.alloc(), 0)?;
+    /// println!(rt; "{}", hex::encode(rt.alloc(), made.bytes())?)?; // eb02eb00
+    /// ```
+    ///
+    /// Errors: those of [`Assembler::push_to`]. Nothing changes then.
+    pub fn push_prepared_to(&mut self, it: &Prepared, label: Label) -> Result<(), BuildError>
+        ensures state { OnOk result (self.new ≡ with_item self.old it.now.instr (Some label.number)) }
+        ensures refused { IfSome (push_refusal self.old it.now.instr (Some label.number)) (λ why. result ≡ Err why) }
+        ensures cause { IfErr result (λ why. (push_refusal self.old it.now.instr (Some label.number) ≡ Some why) ⊎ (why ≡ Memory)) }
+        ensures unchanged { OnErr result (self.new ≡ self.old) }
+    {
+        self.push_prepared_aimed(it, Some(label.number))
+    }
+
     /// Adds bytes of data. A label that is placed before has the address of the first of them.
     ///
     /// Errors: `TooMany` if there would be more than 65,536 items, each byte counted as one; `Memory`. Nothing changes then.
@@ -294,12 +364,15 @@ impl Assembler {
             return Err(BuildError::TooMany);
         }
         let item = stand_in(self.bits);
+        let ready = independent_bytes(self.bits, &item.instr);
         self.items.reserve(count)?;
         self.aims.reserve(count)?;
         self.filled.reserve(count)?;
+        self.ready.reserve(count)?;
         fill(&mut self.items, count, item);
         fill(&mut self.aims, count, None);
         append_bytes(&mut self.filled, bytes);
+        fill_ready(&mut self.ready, count, &ready);
         Ok(())
     }
 }

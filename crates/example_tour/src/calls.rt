@@ -2,8 +2,8 @@
 
 use bitflags::Flags;
 use feddurzai::assembling::{
-    Assembler, Rules, assemble, assemble_code, assemble_code_by, assemble_code_with, label_lines,
-    read_intel,
+    Assembler, Prepared, Rules, assemble, assemble_code, assemble_code_by, assemble_code_with,
+    label_lines, read_intel,
 };
 use feddurzai::decoding::{Decoder, Items, decode_in, read_items};
 use feddurzai::encoding::{encode, encoded_len};
@@ -183,6 +183,48 @@ fn build_table(rt: &HostRuntime) -> anyhow::Result<()> {
     routine.bytes(b"\x2a\x2b")?;
     let made = routine.finish(rt.alloc(), 0x40_1000)?;
     println!(rt; "{}", hex::encode(rt.alloc(), made.bytes())?)?; // 0fb60501000000c32a2b
+    Ok(())
+}
+
+/// Adds an instruction twice, which is encoded once.
+fn build_prepared(rt: &HostRuntime) -> anyhow::Result<()> {
+    // An instruction that is added several times is encoded once.
+    let mut routine = Assembler::new(rt.alloc(), Bits::B64);
+    let push = Prepared::new(Bits::B64, &read_intel(Bits::B64, 0, b"push rax")?)?;
+    routine.push_prepared(&push)?;
+    routine.push_prepared(&push)?;
+    let made = routine.finish(rt.alloc(), 0x40_1000)?;
+    println!(rt; "{}", hex::encode(rt.alloc(), made.bytes())?)?; // 5050
+    Ok(())
+}
+
+/// Makes room in a routine.
+fn make_room(rt: &HostRuntime) -> anyhow::Result<()> {
+    let mut routine = Assembler::new(rt.alloc(), Bits::B64);
+    routine.reserve(100)?;
+    println!(rt; "{}", routine.len())?; // 0
+    Ok(())
+}
+
+/// Adds an instruction that was prepared.
+fn add_prepared(rt: &HostRuntime) -> anyhow::Result<()> {
+    let mut routine = Assembler::new(rt.alloc(), Bits::B64);
+    let ret = Prepared::new(Bits::B64, &read_intel(Bits::B64, 0, b"ret")?)?;
+    routine.push_prepared(&ret)?;
+    println!(rt; "{}", routine.len())?; // 1
+    Ok(())
+}
+
+/// Adds two jumps to one label.
+fn add_prepared_jumps(rt: &HostRuntime) -> anyhow::Result<()> {
+    let mut routine = Assembler::new(rt.alloc(), Bits::B64);
+    let jump = Prepared::new(Bits::B64, &read_intel(Bits::B64, 0, b"jmp 0x0")?)?;
+    let end = routine.label()?;
+    routine.push_prepared_to(&jump, end)?;
+    routine.push_prepared_to(&jump, end)?;
+    routine.place(end)?;
+    let made = routine.finish(rt.alloc(), 0)?;
+    println!(rt; "{}", hex::encode(rt.alloc(), made.bytes())?)?; // eb02eb00
     Ok(())
 }
 
@@ -475,6 +517,10 @@ fn run_reading(rt: &HostRuntime) -> anyhow::Result<()> {
     assemble_one(rt)?;
     build_loop(rt)?;
     build_table(rt)?;
+    build_prepared(rt)?;
+    make_room(rt)?;
+    add_prepared(rt)?;
+    add_prepared_jumps(rt)?;
     assemble_lines(rt)?;
     assemble_table(rt)?;
     assemble_named(rt)?;

@@ -62,7 +62,7 @@ pub mod assembling {
         AssembleError, LabelLine, LineError, Rules, assemble_code, assemble_code_by,
         assemble_code_with, label_lines, laws as text_laws,
     };
-    pub use code_assembler::{Assembled, Assembler, BuildError, FinishError, Label};
+    pub use code_assembler::{Assembled, Assembler, BuildError, FinishError, Label, Prepared};
     pub use intel_reader::{TextError, assemble, laws, read_intel};
 }
 

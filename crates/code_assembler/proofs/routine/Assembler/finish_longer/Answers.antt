@@ -16,4 +16,4 @@ finish_placed-requires-clause-added c =
     let many : c.len-count.result ≡ length s.items = omega (arith, c.len-count.ensures) in
     subst (λ (w : RoutineState). HasAdded w c.len-count.result) (sym c.in_ok-whole.ensures)
     (subst (λ (t : RoutineState). HasAdded (with_byte t 0xCC) c.len-count.result) (sym same)
-    (subst (λ (n : ℕ). HasAdded (with_byte s 0xCC) n) (sym many) (end_added s c.self.invariant)))
+    (subst (λ (n : ℕ). HasAdded (with_byte s 0xCC) n) (sym many) (end_added s c.self.invariant.routine)))
