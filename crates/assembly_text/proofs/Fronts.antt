@@ -1,6 +1,6 @@
 -- The label of a line, by its front.
-use Rattle.std.proofs.Common.{◌≡◌, ℕ, zero, suc, ◌+◌, ◌-◌, length, Bool, true, false, arith, List, [], ◌∷◌, take, drop, get_or, refl, sym, ap, subst, ◌∙◌, None}
-use Rattle.std.specs.Prelude.{not, ◌&&◌, ◌==◌, cond, nat_lt}
+use Rattle.std.proofs.Common.{◌≡◌, ℕ, zero, suc, ◌+◌, ◌-◌, length, Bool, true, false, arith, List, [], ◌∷◌, take, get_or, refl, sym, ap, subst, None}
+use Rattle.std.specs.Prelude.{not, ◌&&◌, ◌==◌, nat_lt}
 use Rattle.std.specs.List.{prefix_len, suffix_len}
 use Rattle.std.proofs.lemmas.Bool.{and_parts}
 use Rattle.assembly_text.specs.Lines.{is_blank, is_name_byte, is_digit, name_len, has_label, label_of, code_len, unindented, shown}

@@ -16,3 +16,11 @@ pub mod Quiet
 pub mod Spelling
 pub mod Keeping
 pub mod Fronts
+pub mod Sized
+pub mod Unprefixed
+pub mod Lanes
+pub mod PlainLines
+pub mod Naming
+pub mod LabelNames
+pub mod Reading
+pub mod Skipping

@@ -1,6 +1,6 @@
 -- Lines without a comment or a quote.
 use Rattle.std.proofs.Common.{◌≡◌, ℕ, suc, ◌+◌, Bool, true, false, List, [], ◌∷◌, length, refl, arith}
-use Rattle.std.specs.Prelude.{not, ◌&&◌, cond}
+use Rattle.std.specs.Prelude.{not, cond}
 use Rattle.std.specs.List.{prefix_len}
 use Rattle.std.proofs.lemmas.Bool.{and_parts}
 use Rattle.assembly_text.specs.Lines.{is_quote, begins_comment, quote_behind, is_quiet, code_len}
@@ -20,7 +20,7 @@ unfolding is_quiet quote_behind
 no_quote c h = rw (not_false (is_quote c) (and_parts (not (begins_comment 0 c)) (not (is_quote c)) h).1) refl
 
 -- such a byte in front counts
-quiet_more : (c : ℕ) (cs : List ℕ) → is_quiet c ≡ true → code_len 0 cs ≡ length cs → code_len 0 (c ∷ cs) ≡ suc (length cs)
+pub quiet_more : (c : ℕ) (cs : List ℕ) → is_quiet c ≡ true → code_len 0 cs ≡ length cs → code_len 0 (c ∷ cs) ≡ suc (length cs)
 unfolding code_len
 quiet_more c cs h e = rw (no_comment c h, no_quote c h, e) refl
 

@@ -1,20 +1,19 @@
 -- What is told of a line.
 use Rattle.std.proofs.Common.{◌≡◌, ℕ, ◌<◌, ◌≤◌, true, false, List, [], ◌∷◌, length, Option, Some, None, refl, sym, ap, subst, inl, inr, ◌∙◌, arith}
-use Rattle.std.specs.Prelude.{Result, Ok, Err, IfOk, MatchOption, is_some, Bool, not, ◌&&◌, if◌then◌else◌, bytes_eq}
+use Rattle.std.specs.Prelude.{Result, Ok, Err, IfOk, MatchOption, is_some, Bool, not, ◌&&◌, bytes_eq}
 use Rattle.std.specs.declared.alloc.AllocError.{AllocError}
 use Rattle.assembly_text.specs.declared.text_error.LineError.{LineError}
-use Rattle.assembly_text.specs.declared.text_error.LineError.TheVariants.{NotData, UnknownName, DoesNotFit}
 use Rattle.code_assembler.specs.Routine.{RoutineState}
 use Rattle.assembly_text.specs.declared.code.Code.{Code}
 use Rattle.assembly_text.specs.declared.code.Code.TheVariants.{Plain, Named, Unsized, Nothing}
 use Rattle.assembly_text.specs.declared.round.Trace.{Trace}
 use Rattle.assembly_text.specs.Lines.{lines_in, shown, label_of, body_of}
 use Rattle.assembly_text.specs.Names.{first_word, behind_word}
-use Rattle.assembly_text.specs.Data.{data_of, data_width}
+use Rattle.assembly_text.specs.Data.{data_width}
 use Rattle.assembly_text.specs.Labels.{number_from, labels_from}
 use Rattle.assembly_text.specs.Padding.{is_align}
-use Rattle.assembly_text.specs.Placing.{View, is_whole, is_nothing, placed, placed_text}
-use Rattle.assembly_text.specs.Text.{IsCode, AddsCode, RefusesCode, is_open, AddsPlaced, RefusesPlaced, AddsStated, RefusesClosed, RefusesStated, width_of, is_ever_data, is_free_data, data_refusal, AddsData, RefusesData, behind_data, AddsFurther, RefusesFurther, AddsWords, RefusesWords, AddsLabel, AddsBody, RefusesBody, AddsLine, RefusesLine}
+use Rattle.assembly_text.specs.Placing.{View, is_whole, is_nothing, placed_text}
+use Rattle.assembly_text.specs.Text.{IsCode, AddsCode, RefusesCode, is_open, AddsPlaced, RefusesPlaced, AddsStated, RefusesClosed, RefusesStated, width_of, AddsData, RefusesData, behind_data, AddsFurther, RefusesFurther, AddsWords, RefusesWords, AddsLabel, AddsBody, RefusesBody, AddsLine, RefusesLine}
 
 -- what is told of a line, by other words
 pub told_more : (r : Result (Option LineError) AllocError) (P Q : Type 0) (S T : LineError → Type 0) → (P → Q) → ((w : LineError) → S w → T w)

@@ -1,7 +1,7 @@
 -- The labels of a text: their numbers, in the order of their lines.
-use Rattle.std.specs.Prelude.{ℕ, ◌+◌, Bool, not, ◌&&◌, nat_lt, if◌then◌else◌, List, [], ◌∷◌, map, Option, Some, None, bytes_eq}
+use Rattle.std.specs.Prelude.{◌≡◌, ℕ, ◌+◌, Bool, not, ◌&&◌, nat_lt, if◌then◌else◌, List, [], ◌∷◌, map, Option, Some, None, bytes_eq}
 use Rattle.assembly_text.specs.Constants.{is_free_name}
-use Rattle.assembly_text.specs.Lines.{lower_byte, shown, has_label, label_of, begins_name, name_at}
+use Rattle.assembly_text.specs.Lines.{lower_byte, lines_in, shown, has_label, label_of, begins_name, name_at}
 use Rattle.assembly_text.specs.Names.{is_instruction_name}
 
 -- a name may be that of a label: in no case is it a word of an operand, the name of an instruction or a prefix
@@ -40,3 +40,8 @@ number_of lines count name = below (number_from lines name 0) count
 unfoldable pub labels_from : List (List ℕ) → ℕ → ℕ
 labels_from [] count = count
 labels_from (line ∷ lines) count = labels_from lines (if has_label (shown line) then count + 1 else count)
+
+-- the labels of one text are those of another
+pub record HasLabelsOf (text : List ℕ) (rest : List ℕ) : Type 0 where
+  pub names : (name : List ℕ) (count : ℕ) → number_from (lines_in text) name count ≡ number_from (lines_in rest) name count
+  pub total : (count : ℕ) → labels_from (lines_in text) count ≡ labels_from (lines_in rest) count

@@ -8,10 +8,12 @@ pub mod Constants
 pub mod Spellings
 pub mod Statements
 pub mod Readings
+pub mod Sizing
 pub mod Labels
 pub mod Placing
 pub mod Padding
 pub mod Text
+pub mod Kept
 pub mod Known
 pub mod TextLabels
 pub mod Origins

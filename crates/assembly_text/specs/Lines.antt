@@ -1,6 +1,9 @@
 -- The lines of a text of code, and the parts of a line: its comment, its label and what it says besides.
-use Rattle.std.specs.Prelude.{ℕ, suc, ◌+◌, ◌-◌, Bool, not, ◌&&◌, ◌||◌, ◌==◌, nat_lt, nat_le, if◌then◌else◌, List, [], ◌∷◌, ◌++◌, length, take, drop, slice_index_or, Option, Some, None, codes}
+use Rattle.std.specs.Prelude.{◌≡◌, ℕ, suc, ◌+◌, ◌-◌, ◌<◌, Bool, true, not, ◌&&◌, ◌||◌, ◌==◌, nat_lt, nat_le, if◌then◌else◌, List, [], ◌∷◌, ◌++◌, length, take, drop, slice_index_or, Option, Some, None, codes}
+use Rattle.std.specs.Int.{trailing_zeros, w64}
 use Rattle.std.specs.List.{prefix_len, suffix_len}
+use Rattle.assembly_text.specs.declared.line.LineKind.{LineKind}
+use Rattle.assembly_text.specs.declared.line.LineKind.TheVariants.{Plain, Quiet, Any}
 
 -- ---- bytes
 
@@ -109,6 +112,34 @@ with_byte_in_front c (line ∷ lines) = (c ∷ line) ∷ lines
 unfoldable pub lines_in : List ℕ → List (List ℕ)
 lines_in [] = []
 lines_in (c ∷ bytes) = if c == 10 then [] ∷ lines_in bytes else with_byte_in_front c (lines_in bytes)
+
+-- ---- plain lines
+
+-- a byte that neither ends a line nor begins a comment or a quote
+unfoldable pub is_inner : ℕ → Bool
+is_inner c = not (c == 10) && is_quiet c
+
+-- such a byte that does not end a label either
+unfoldable pub is_plain : ℕ → Bool
+is_plain c = not (c == 58) && is_inner c
+
+-- a line of such bytes
+abbrev pub IsPlain : List ℕ → Type 0
+IsPlain line = (k : ℕ) → k < length line → is_plain (slice_index_or line k 0) ≡ true
+
+-- what is known of a line
+abbrev pub IsKind : LineKind → List ℕ → Type 0
+IsKind Plain line = IsPlain line
+IsKind Quiet line = (k : ℕ) → k < length line → is_inner (slice_index_or line k 0) ≡ true
+IsKind Any line = Unit {0}
+
+-- a byte that does not end a label
+unfoldable pub is_no_colon : ℕ → Bool
+is_no_colon c = not (c == 58)
+
+-- the place of the lowest bit that is set, or another number
+abbrev pub first_set : ℕ → ℕ → ℕ
+first_set mask other = if mask == 0 then other else trailing_zeros w64 mask
 
 -- ---- names in a text
 

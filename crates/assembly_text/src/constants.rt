@@ -96,7 +96,7 @@ pub(crate) fn constant_named(
 {
     let mut rest = names;
     'lines: while !rest.is_empty() {
-        let (line, behind) = first_line(rest);
+        let (line, behind, _) = first_line(rest);
         let text = shown(line);
         if first_word(text) == name {
             return definition_of(alloc, text);
@@ -126,7 +126,7 @@ pub(crate) fn bad_name(alloc: Global, names: &[u8]) -> Result<Option<u64>, Alloc
     let mut rest = names;
     let mut count: u64 = 0;
     'lines: while !rest.is_empty() {
-        let (line, behind) = first_line(rest);
+        let (line, behind, _) = first_line(rest);
         let good = is_names_line(alloc, shown(line))?;
         count += 1;
         if !good {

@@ -99,11 +99,11 @@ pub(crate) fn no_words() -> Draft
     }
 }
 
-/// What is no operand any more.
-fn unsound(d: &Draft) -> Draft
-    ensures { result ≡ spec.unsound d.now }
+/// Makes this no operand any more.
+fn unsound(d: &mut Draft)
+    ensures { d.new ≡ spec.unsound d.old }
 {
-    Draft { sound: false, ..*d }
+    d.sound = false;
 }
 
 /// Whether no term is begun.
@@ -129,45 +129,40 @@ fn is_ready(d: &Draft) -> bool
     }
 }
 
-/// The operand with a number that is added or taken away.
+/// Adds a number, or takes it away.
 #[tactic(auto, unfolding(crate::specs::Drafts::with_number))]
-fn with_number(d: &Draft, negative: bool, n: u64) -> Draft
-    ensures { result ≡ spec.with_number d.now negative n }
+fn with_number(d: &mut Draft, negative: bool, n: u64)
+    ensures { d.new ≡ spec.with_number d.old negative n }
 {
     if negative {
         match d.minus.checked_add(n) {
-            Some(minus) => Draft {
-                minus,
-                counted: true,
-                ..*d
-            },
+            Some(minus) => {
+                d.minus = minus;
+                d.counted = true;
+            }
             None => unsound(d),
         }
     } else {
         match d.plus.checked_add(n) {
-            Some(plus) => Draft {
-                plus,
-                counted: true,
-                ..*d
-            },
+            Some(plus) => {
+                d.plus = plus;
+                d.counted = true;
+            }
             None => unsound(d),
         }
     }
 }
 
-/// The operand with a name, which is not taken away.
+/// Adds a name, which is not taken away.
 #[tactic(auto, unfolding(crate::specs::Drafts::with_name))]
-fn with_name(d: &Draft, negative: bool, at: usize) -> Draft
-    ensures { result ≡ spec.with_name d.now negative at }
+fn with_name(d: &mut Draft, negative: bool, at: usize)
+    ensures { d.new ≡ spec.with_name d.old negative at }
 {
     if negative || d.name.is_some() {
-        unsound(d)
+        unsound(d);
     } else {
-        Draft {
-            name: Some(at),
-            counted: true,
-            ..*d
-        }
+        d.name = Some(at);
+        d.counted = true;
     }
 }
 
@@ -184,129 +179,116 @@ fn is_always_base(r: Register) -> bool
     }
 }
 
-/// The operand with a second register without a scale.
+/// Adds a second register without a scale.
 #[tactic(auto, unfolding(crate::specs::Drafts::with_second))]
-fn with_second(d: &Draft, b: Register, r: Register) -> Draft
-    ensures { result ≡ spec.with_second d.now b r }
+fn with_second(d: &mut Draft, b: Register, r: Register)
+    ensures { d.new ≡ spec.with_second d.old b r }
 {
     if d.index.is_some() {
-        unsound(d)
+        unsound(d);
     } else if is_always_base(r) {
-        Draft {
-            base: Some(r),
-            index: Some(b),
-            scale: 1,
-            ..*d
-        }
+        d.base = Some(r);
+        d.index = Some(b);
+        d.scale = 1;
     } else {
-        Draft {
-            index: Some(r),
-            scale: 1,
-            ..*d
-        }
+        d.index = Some(r);
+        d.scale = 1;
     }
 }
 
-/// The operand with a register without a scale.
+/// Adds a register without a scale.
 #[tactic(auto, unfolding(crate::specs::Drafts::with_register))]
-fn with_register(d: &Draft, r: Register) -> Draft
-    ensures { result ≡ spec.with_register d.now r }
+fn with_register(d: &mut Draft, r: Register)
+    ensures { d.new ≡ spec.with_register d.old r }
 {
     match d.base {
-        None => Draft {
-            base: Some(r),
-            ..*d
-        },
+        None => d.base = Some(r),
         Some(b) => with_second(d, b, r),
     }
 }
 
-/// The operand with a register and its scale.
+/// Adds a register and its scale.
 #[tactic(auto, unfolding(crate::specs::Drafts::with_scaled))]
-fn with_scaled(d: &Draft, r: Register, scale: u8) -> Draft
-    ensures { result ≡ spec.with_scaled d.now r scale }
+fn with_scaled(d: &mut Draft, r: Register, scale: u8)
+    ensures { d.new ≡ spec.with_scaled d.old r scale }
 {
     if d.index.is_none() {
-        Draft {
-            index: Some(r),
-            scale,
-            ..*d
-        }
+        d.index = Some(r);
+        d.scale = scale;
     } else if scale == 1 {
-        with_register(d, r)
+        with_register(d, r);
     } else {
-        unsound(d)
+        unsound(d);
     }
 }
 
-/// The operand with a term.
+/// Adds a term.
 #[tactic(auto, unfolding(crate::specs::Drafts::with_term))]
-fn with_term(d: &Draft, negative: bool, term: Pending) -> Draft
-    ensures { result ≡ spec.with_term d.now negative term }
+fn with_term(d: &mut Draft, negative: bool, term: Pending)
+    ensures { d.new ≡ spec.with_term d.old negative term }
 {
     match term {
-        Pending::Nothing => *d,
+        Pending::Nothing => {}
         Pending::Sign => unsound(d),
         Pending::Number(n) => with_number(d, negative, n),
         Pending::Reg(r) => if negative {
-            unsound(d)
+            unsound(d);
         } else {
-            with_register(d, r)
+            with_register(d, r);
         },
         Pending::Scaled(r, scale) => if negative {
-            unsound(d)
+            unsound(d);
         } else {
-            with_scaled(d, r, scale)
+            with_scaled(d, r, scale);
         },
         Pending::Name(at) => with_name(d, negative, at),
     }
 }
 
-/// The operand without the term that is begun.
-fn without_term(d: &Draft) -> Draft
-    ensures { result ≡ spec.without_term d.now }
+/// Drops the term that is begun.
+fn without_term(d: &mut Draft)
+    ensures { d.new ≡ spec.without_term d.old }
 {
-    Draft {
-        sound: d.sound && !d.starred,
-        negative: false,
-        starred: false,
-        pending: Pending::Nothing,
-        ..*d
-    }
+    d.sound = d.sound && !d.starred;
+    d.negative = false;
+    d.starred = false;
+    d.pending = Pending::Nothing;
 }
 
-/// The operand with the term that was begun.
-fn flushed(d: &Draft) -> Draft
-    ensures { result ≡ spec.flushed d.now }
+/// Adds the term that was begun.
+fn flushed(d: &mut Draft)
+    ensures { d.new ≡ spec.flushed d.old }
 {
-    with_term(&without_term(d), d.negative, d.pending)
+    let negative = d.negative;
+    let term = d.pending;
+    without_term(d);
+    with_term(d, negative, term);
 }
 
-/// The operand with a bracket that opens.
+/// Adds a bracket that opens.
 #[tactic(auto, unfolding(crate::specs::Drafts::opened))]
-fn opened(d: &Draft) -> Draft
-    ensures { result ≡ spec.opened d.now }
+fn opened(d: &mut Draft)
+    ensures { d.new ≡ spec.opened d.old }
 {
     match d.place {
-        Place::Front => Draft {
-            sound: d.sound && (is_idle(d) && (d.base.is_none() && !d.counted)),
-            place: Place::Inside,
-            ..*d
-        },
+        Place::Front => {
+            d.sound = d.sound && (is_idle(d) && (d.base.is_none() && !d.counted));
+            d.place = Place::Inside;
+        }
         _ => unsound(d),
     }
 }
 
-/// The operand with a bracket that closes.
+/// Adds a bracket that closes.
 #[tactic(auto, unfolding(crate::specs::Drafts::closed))]
-fn closed(d: &Draft) -> Draft
-    ensures { result ≡ spec.closed d.now }
+fn closed(d: &mut Draft)
+    ensures { d.new ≡ spec.closed d.old }
 {
     match d.place {
-        Place::Inside => Draft {
-            place: Place::Behind,
-            ..flushed(d)
-        },
+        Place::Inside => {
+            flushed(d);
+            d.place = Place::Behind;
+        }
         _ => unsound(d),
     }
 }
@@ -319,59 +301,55 @@ fn other_sign(negative: bool, minus: bool) -> bool
     if minus { !negative } else { negative }
 }
 
-/// The operand with a sign.
+/// Adds a sign.
 #[tactic(auto, unfolding(crate::specs::Drafts::signed))]
-fn signed(d: &Draft, minus: bool) -> Draft
-    ensures { result ≡ spec.signed d.now minus }
+fn signed(d: &mut Draft, minus: bool)
+    ensures { d.new ≡ spec.signed d.old minus }
 {
     match d.pending {
-        Pending::Sign => Draft {
-            negative: other_sign(d.negative, minus),
-            ..*d
-        },
-        _ => Draft {
-            negative: minus,
-            pending: Pending::Sign,
-            ..flushed(d)
-        },
+        Pending::Sign => d.negative = other_sign(d.negative, minus),
+        _ => {
+            flushed(d);
+            d.negative = minus;
+            d.pending = Pending::Sign;
+        }
     }
 }
 
-/// The operand with a star.
+/// Adds a star.
 #[tactic(auto, unfolding(crate::specs::Drafts::with_star))]
-fn with_star(d: &Draft) -> Draft
-    ensures { result ≡ spec.with_star d.now }
+fn with_star(d: &mut Draft)
+    ensures { d.new ≡ spec.with_star d.old }
 {
     match d.pending {
-        Pending::Number(_) => Draft {
-            sound: d.sound && !d.starred,
-            starred: true,
-            ..*d
-        },
-        Pending::Reg(_) => Draft {
-            sound: d.sound && !d.starred,
-            starred: true,
-            ..*d
-        },
+        Pending::Number(_) => {
+            d.sound = d.sound && !d.starred;
+            d.starred = true;
+        }
+        Pending::Reg(_) => {
+            d.sound = d.sound && !d.starred;
+            d.starred = true;
+        }
         _ => unsound(d),
     }
 }
 
-/// The operand with a colon.
+/// Adds a colon.
 #[tactic(auto, unfolding(crate::specs::Drafts::with_colon))]
-fn with_colon(d: &Draft) -> Draft
-    ensures { result ≡ spec.with_colon d.now }
+fn with_colon(d: &mut Draft)
+    ensures { d.new ≡ spec.with_colon d.old }
 {
     match d.pending {
-        Pending::Reg(Register::Seg(s)) => Draft {
-            seg: Some(s),
-            ..without_term(d)
-        },
-        Pending::Number(n) => Draft {
-            sound: d.sound && (!d.negative && (!d.starred && d.selector.is_none())),
-            selector: Some(n),
-            ..without_term(d)
-        },
+        Pending::Reg(Register::Seg(s)) => {
+            without_term(d);
+            d.seg = Some(s);
+        }
+        Pending::Number(n) => {
+            let sound = d.sound && (!d.negative && (!d.starred && d.selector.is_none()));
+            without_term(d);
+            d.sound = sound;
+            d.selector = Some(n);
+        }
         _ => unsound(d),
     }
 }
@@ -384,85 +362,79 @@ fn is_scale(n: u64) -> bool
     n == 1 || (n == 2 || (n == 4 || n == 8))
 }
 
-/// The operand with a register and its scale as the term that is begun.
+/// Begins the term of a register and its scale.
 #[tactic(auto, unfolding(crate::specs::Drafts::scaled, crate::specs::Drafts::is_scale))]
-fn scaled(d: &Draft, r: Register, n: u64) -> Draft
-    ensures { result ≡ spec.scaled d.now r n }
+fn scaled(d: &mut Draft, r: Register, n: u64)
+    ensures { d.new ≡ spec.scaled d.old r n }
 {
     if is_scale(n) {
-        Draft {
-            starred: false,
-            pending: Pending::Scaled(r, n as u8),
-            ..*d
-        }
+        d.starred = false;
+        d.pending = Pending::Scaled(r, n as u8);
     } else {
-        unsound(d)
+        unsound(d);
     }
 }
 
-/// The operand with a term that begins.
+/// Begins a term.
 #[tactic(auto, unfolding(crate::specs::Drafts::with_pending))]
-fn with_pending(d: &Draft, term: Pending) -> Draft
-    ensures { result ≡ spec.with_pending d.now term }
+fn with_pending(d: &mut Draft, term: Pending)
+    ensures { d.new ≡ spec.with_pending d.old term }
 {
-    Draft {
-        sound: d.sound && (is_ready(d) && !d.starred),
-        pending: term,
-        ..*d
-    }
+    d.sound = d.sound && (is_ready(d) && !d.starred);
+    d.pending = term;
 }
 
-/// The operand with a number.
+/// Adds a number.
 #[tactic(auto, unfolding(crate::specs::Drafts::with_number_word))]
-fn with_number_word(d: &Draft, n: u64) -> Draft
-    ensures { result ≡ spec.with_number_word d.now n }
+fn with_number_word(d: &mut Draft, n: u64)
+    ensures { d.new ≡ spec.with_number_word d.old n }
 {
     match d.pending {
         Pending::Reg(r) => if d.starred {
-            scaled(d, r, n)
+            scaled(d, r, n);
         } else {
-            unsound(d)
+            unsound(d);
         },
         _ => with_pending(d, Pending::Number(n)),
     }
 }
 
-/// The operand with a register.
+/// Adds a register.
 #[tactic(auto, unfolding(crate::specs::Drafts::with_register_word))]
-fn with_register_word(d: &Draft, r: Register) -> Draft
-    ensures { result ≡ spec.with_register_word d.now r }
+fn with_register_word(d: &mut Draft, r: Register)
+    ensures { d.new ≡ spec.with_register_word d.old r }
 {
     match d.pending {
         Pending::Number(n) => if d.starred {
-            scaled(d, r, n)
+            scaled(d, r, n);
         } else {
-            unsound(d)
+            unsound(d);
         },
         _ => with_pending(d, Pending::Reg(r)),
     }
 }
 
-/// The operand with a size.
+/// Adds a size.
 #[tactic(auto, unfolding(crate::specs::Drafts::with_size))]
-fn with_size(d: &Draft, size: SizeName) -> Draft
-    ensures { result ≡ spec.with_size d.now size }
+fn with_size(d: &mut Draft, size: SizeName)
+    ensures { d.new ≡ spec.with_size d.old size }
 {
     match d.place {
         Place::Front => match d.size {
-            SizeName::None => Draft { size, ..*d },
+            SizeName::None => d.size = size,
             _ => unsound(d),
         },
         _ => unsound(d),
     }
 }
 
-/// The operand with a word of a class, at a place.
+/// Adds a word of a class, at a place.
 #[tactic(auto, unfolding(crate::specs::Drafts::with_word))]
-fn with_word(d: &Draft, at: usize, class: Class) -> Draft
-    ensures { result ≡ spec.with_word d.now at class }
+fn with_word(d: &mut Draft, at: usize, class: Class)
+    ensures { d.new ≡ spec.with_word d.old at class }
 {
     match class {
-        Class::Blank => *d,
+        Class::Blank => {}
         Class::Open => opened(d),
         Class::Close => closed(d),
         Class::Plus => signed(d, false),
@@ -472,8 +444,8 @@ fn with_word(d: &Draft, at: usize, class: Class) -> Draft
         Class::Number(n) => with_number_word(d, n),
         Class::Reg(r) => with_register_word(d, r),
         Class::Size(s) => with_size(d, s),
-        Class::Skipped => *d,
-        Class::Rel => Draft { rel: true, ..*d },
+        Class::Skipped => {}
+        Class::Rel => d.rel = true,
         Class::Name => with_pending(d, Pending::Name(at)),
         Class::Other => unsound(d),
     }
@@ -515,7 +487,7 @@ fn with_words(start: usize, text: &[u8]) -> Draft
     'words: while !rest.is_empty() {
         let len = word_len(rest);
         let (word, behind) = rest.split_at(len);
-        d = with_word(&d, at, class_of(word));
+        with_word(&mut d, at, class_of(word));
         at += len;
         rest = behind;
     }
@@ -641,46 +613,40 @@ fn is_whole_address(d: &Draft) -> bool
                 && ((!d.rel || (d.base.is_none() && d.index.is_none())) && fits(d))))
 }
 
-/// The operand, if a condition holds.
-fn only_if(ok: bool, d: &Draft) -> Draft
-    ensures { result ≡ spec.only_if ok d.now }
+/// Makes this no operand, unless a condition holds.
+fn only_if(ok: bool, d: &mut Draft)
+    ensures { d.new ≡ spec.only_if ok d.old }
 {
-    Draft {
-        sound: d.sound && ok,
-        ..*d
-    }
+    d.sound = d.sound && ok;
 }
 
-/// The operand with an index of the scale 1 as its base, if it has none.
+/// Makes an index with the scale 1 the base, if there is none.
 #[tactic(auto, unfolding(crate::specs::Drafts::based))]
-fn based(d: &Draft) -> Draft
-    ensures { result ≡ spec.based d.now }
+fn based(d: &mut Draft)
+    ensures { d.new ≡ spec.based d.old }
 {
     if d.base.is_none() && d.scale == 1 {
-        Draft {
-            base: d.index,
-            index: None,
-            ..*d
-        }
-    } else {
-        *d
+        d.base = d.index;
+        d.index = None;
     }
 }
 
-/// The operand after its last word.
+/// Completes the operand after its last word.
 #[tactic(auto, unfolding(crate::specs::Drafts::finished))]
-fn finished(d: &Draft) -> Draft
-    ensures { result ≡ spec.finished d.now }
+fn finished(d: &mut Draft)
+    ensures { d.new ≡ spec.finished d.old }
 {
     match d.place {
         Place::Front => {
-            let whole = flushed(d);
-            only_if(is_whole_plain(&whole), &whole)
+            flushed(d);
+            let whole = is_whole_plain(d);
+            only_if(whole, d);
         }
         Place::Inside => unsound(d),
         Place::Behind => {
-            let whole = based(d);
-            only_if(is_whole_address(&whole), &whole)
+            based(d);
+            let whole = is_whole_address(d);
+            only_if(whole, d);
         }
     }
 }
@@ -690,5 +656,7 @@ pub(crate) fn operand_in(start: usize, text: &[u8]) -> Draft
     requires { start + length text.now < 2 ^ 64 }
     ensures { result ≡ spec.operand_in start text.now }
 {
-    finished(&with_words(start, text))
+    let mut d = with_words(start, text);
+    finished(&mut d);
+    d
 }

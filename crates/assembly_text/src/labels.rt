@@ -1,14 +1,19 @@
 //! The labels of a text.
 
-ghost use Rattle.std.specs.Prelude.{◌≡◌, ℕ, List, length, bytes_eq, if◌then◌else◌, IfOk, OnOk, MatchOption, Some, None};
+ghost use Rattle.std.specs.Prelude.{◌≡◌, ℕ, List, length, map, bytes_eq, if◌then◌else◌, true, IsTrue, IfOk, OnOk, MatchOption, Some, None};
 ghost use Rattle.std.specs.HashMap as hash;
 ghost use Rattle.assembly_text.specs.Lines as lines;
+ghost use Rattle.assembly_text.specs.Lines.{lower_byte};
 ghost use Rattle.assembly_text.specs.Labels as spec;
 
 use crate::constants::is_free_word;
-use crate::line::{begins_name, first_line, line_label, lowered, name_at};
+use crate::line::{
+    begins_name, byte_at, first_line, is_lowered, label_in, lowered, name_at, short_lowered,
+};
 use crate::names::is_instruction_name;
+use crate::plain::behind_unlabelled;
 use code_assembler::{Assembler, Label};
+use opcode_rows::laws::names_are_words;
 use std::alloc::{AllocError, Global};
 use std::collections::HashMap;
 
@@ -25,17 +30,41 @@ pub(crate) struct Labels<'a> {
     ghost right: { (name : List ℕ) → hash.get_by (λ k. bytes_eq name k.now) numbers ≡ spec.number_from (lines.lines_in text.now) name 0 },
 }
 
-/// Whether a name may be that of a label: it is no word of an operand, no name of an instruction and no prefix, in any case.
+/// Whether a name has a dot in front, as `.L12`: neither a word of an operand nor the name of an instruction nor a prefix begins so.
+fn is_dotted(name: &[u8]) -> bool
+    ensures { IsTrue result → spec.is_label_name name.now ≡ true }
+{
+    names_are_words();
+    byte_at(name, 0) == b'.' && byte_at(name, 2) != b'('
+}
+
+/// Whether a name in lower case may be that of a label.
 #[tactic(auto, unfolding(crate::specs::Labels::is_label_name, crate::specs::Constants::is_free_name))]
+fn is_low_label_name(alloc: Global, low: &[u8]) -> Result<bool, AllocError>
+    ensures { (name : List ℕ) → low.now ≡ map lower_byte name → IfOk result (λ may. may ≡ spec.is_label_name name) }
+{
+    if !is_free_word(low) {
+        return Ok(false);
+    }
+    let taken = is_instruction_name(alloc, low)?;
+    Ok(!taken)
+}
+
+/// Whether a name may be that of a label: it is no word of an operand, no name of an instruction and no prefix, in any case.
 pub(crate) fn is_label_name(alloc: Global, name: &[u8]) -> Result<bool, AllocError>
     ensures { IfOk result (λ may. may ≡ spec.is_label_name name.now) }
 {
-    let low = lowered(alloc, name)?;
-    if !is_free_word(&low) {
-        return Ok(false);
+    if is_dotted(name) {
+        return Ok(true);
     }
-    let taken = is_instruction_name(alloc, &low)?;
-    Ok(!taken)
+    if is_lowered(name) {
+        return is_low_label_name(alloc, name);
+    }
+    if let Some(low) = short_lowered(name) {
+        return is_low_label_name(alloc, &low);
+    }
+    let low = lowered(alloc, name)?;
+    is_low_label_name(alloc, &low)
 }
 
 /// Whether a name that may be that of a label begins at a place of a text.
@@ -70,15 +99,15 @@ pub(crate) fn labels_in(alloc: Global, text: &[u8]) -> Result<Labels<'_>, AllocE
     ensures { IfOk result (λ labels. labels.text.now ≡ text.now) }
 {
     let mut numbers = HashMap::new(alloc);
-    let mut rest = text;
+    let mut rest = behind_unlabelled(text);
     let mut count = 0;
     'lines: while !rest.is_empty() {
-        let (line, behind) = first_line(rest);
-        if let Some(label) = line_label(line) {
+        let (line, behind, kind) = first_line(rest);
+        if let Some(label) = label_in(line, kind) {
             add_name(&mut numbers, label, count)?;
             count += 1;
         }
-        rest = behind;
+        rest = behind_unlabelled(behind);
     }
     Ok(Labels {
         text,

@@ -1,11 +1,16 @@
 //! The parts of a line of code.
 
-ghost use Rattle.std.specs.Prelude.{◌≡◌, ◌≤◌, ◌<◌, ◌∷◌, ℕ, List, map, take, drop, length, IfOk, MatchOption, Some, None};
+ghost use Rattle.std.specs.Prelude.{◌≡◌, ◌≤◌, ◌<◌, ◌∷◌, ℕ, suc, List, map, take, drop, length, slice_index_or, IfOk, IsTrue, IfSome, MatchOption, Some, None};
 ghost use Rattle.std.specs.List.{prefix_len, suffix_len};
 ghost use Rattle.assembly_text.specs.Lines as spec;
 ghost use Rattle.assembly_text.specs.Lines.{is_blank, is_name_byte};
 
+use crate::plain::{inner_len, plain_len};
+use arrayvec::ArrayVec;
 use std::alloc::{AllocError, Global};
+
+/// How many bytes most names have at most.
+pub(crate) const SHORT_LEN: usize = 16;
 
 /// Whether a byte is a space, a tab or a carriage return.
 #[tactic(auto, unfolding(crate::specs::Lines::is_blank))]
@@ -52,6 +57,31 @@ pub(crate) fn lowered(alloc: Global, text: &[u8]) -> Result<Vec<u8>, AllocError>
     Ok(low)
 }
 
+/// Whether a text has no letter in upper case.
+pub(crate) fn is_lowered(text: &[u8]) -> bool
+    ensures { IsTrue result → map spec.lower_byte text.now ≡ text.now }
+{
+    for (i, c) in text.iter().enumerate() {
+        if lower_byte(*c) != *c {
+            return false;
+        }
+    }
+    true
+}
+
+/// A text in lower case, if it is short.
+pub(crate) fn short_lowered(text: &[u8]) -> Option<ArrayVec<u8, SHORT_LEN>>
+    ensures { IfSome result (λ low. low.items ≡ map spec.lower_byte text.now) }
+{
+    let mut low = ArrayVec::new();
+    'bytes: for k in 0..text.len() {
+        if let Err(_) = low.try_push(lower_byte(text[k])) {
+            return None;
+        }
+    }
+    Some(low)
+}
+
 /// Whether a byte is a quote.
 #[tactic(auto, unfolding(crate::specs::Lines::is_quote))]
 pub(crate) fn is_quote(c: u8) -> bool
@@ -85,7 +115,7 @@ pub(crate) fn quote_behind(quote: u8, c: u8) -> u8
 /// Whether a byte begins neither a comment nor a quote.
 #[inline]
 #[tactic(auto, unfolding(crate::specs::Lines::is_quiet))]
-fn is_quiet(c: u8) -> bool
+pub(crate) fn is_quiet(c: u8) -> bool
     ensures { result ≡ spec.is_quiet c }
 {
     !begins_comment(0, c) && !is_quote(c)
@@ -238,6 +268,17 @@ pub(crate) fn shown_column(line: &[u8]) -> usize
     blanks_len(code_of(line)) + 1
 }
 
+/// What is known of a line.
+#[derive(Clone, Copy)]
+pub(crate) enum LineKind {
+    /// It has neither a label, a comment nor a quote.
+    Plain,
+    /// It has neither a comment nor a quote.
+    Quiet,
+    /// Nothing.
+    Any,
+}
+
 /// The parts of a line.
 #[derive(Clone, Copy)]
 pub(crate) struct LineParts<'a> {
@@ -252,13 +293,37 @@ pub(crate) struct LineParts<'a> {
 }
 
 /// The label of a line, if it has one. Most lines have none, as their front shows.
-pub(crate) fn line_label(line: &[u8]) -> Option<&[u8]>
+fn line_label(line: &[u8]) -> Option<&[u8]>
     ensures { MatchOption result (spec.label_of (spec.shown line.now) ≡ None) (λ name. spec.label_of (spec.shown line.now) ≡ Some name.now) }
 {
     if has_label(unindented(line)) {
         label_of(shown(line))
     } else {
         None
+    }
+}
+
+/// The code of a line of a kind.
+fn code_in(line: &[u8], kind: LineKind) -> &[u8]
+    requires { spec.IsKind kind line.now }
+    ensures { result.now ≡ spec.code_of line.now }
+{
+    match kind {
+        LineKind::Plain => line,
+        LineKind::Quiet => line,
+        LineKind::Any => line.split_at(quoted_len(line)).0,
+    }
+}
+
+/// The label of a line of a kind.
+pub(crate) fn label_in(line: &[u8], kind: LineKind) -> Option<&[u8]>
+    requires { spec.IsKind kind line.now }
+    ensures { MatchOption result (spec.label_of (spec.shown line.now) ≡ None) (λ name. spec.label_of (spec.shown line.now) ≡ Some name.now) }
+{
+    match kind {
+        LineKind::Plain => None,
+        LineKind::Quiet => label_of(trimmed(code_in(line, kind))),
+        LineKind::Any => line_label(line),
     }
 }
 
@@ -277,7 +342,7 @@ fn label_and_body(text: &[u8]) -> (Option<&[u8]>, &[u8])
 }
 
 /// The parts of a line, by its code.
-pub(crate) fn parts_of(code: &[u8]) -> LineParts<'_>
+fn parts_of(code: &[u8]) -> LineParts<'_>
     ensures shown { result.shown.now ≡ spec.trimmed code.now }
     ensures label { MatchOption result.label (spec.label_of result.shown.now ≡ None) (λ name. spec.label_of result.shown.now ≡ Some name.now) }
     ensures body { result.body.now ≡ spec.body_of result.shown.now }
@@ -292,6 +357,38 @@ pub(crate) fn parts_of(code: &[u8]) -> LineParts<'_>
         label,
         body,
         column,
+    }
+}
+
+/// The parts of a plain line.
+fn plain_parts(line: &[u8]) -> LineParts<'_>
+    requires { spec.IsPlain line.now }
+    ensures shown { result.shown.now ≡ spec.shown line.now }
+    ensures label { MatchOption result.label (spec.label_of result.shown.now ≡ None) (λ name. spec.label_of result.shown.now ≡ Some name.now) }
+    ensures body { result.body.now ≡ spec.body_of result.shown.now }
+    ensures column { result.column ≡ spec.body_column line.now }
+{
+    let blanks = blanks_len(line);
+    let shown = unpadded(line.split_at(blanks).1);
+    LineParts {
+        shown,
+        label: None,
+        body: shown,
+        column: blanks + 1,
+    }
+}
+
+/// The parts of a line of a kind.
+pub(crate) fn line_parts(line: &[u8], kind: LineKind) -> LineParts<'_>
+    requires { spec.IsKind kind line.now }
+    ensures shown { result.shown.now ≡ spec.shown line.now }
+    ensures label { MatchOption result.label (spec.label_of result.shown.now ≡ None) (λ name. spec.label_of result.shown.now ≡ Some name.now) }
+    ensures body { result.body.now ≡ spec.body_of result.shown.now }
+    ensures column { result.column ≡ spec.body_column line.now }
+{
+    match kind {
+        LineKind::Plain => plain_parts(line),
+        _ => parts_of(code_in(line, kind)),
     }
 }
 
@@ -318,10 +415,11 @@ pub(crate) fn label_of(text: &[u8]) -> Option<&[u8]>
 pub(crate) fn begins_name(text: &[u8], at: usize) -> bool
     ensures { result ≡ spec.begins_name text.now at }
 {
+    if at > 0 && is_name_byte(byte_at(text, at - 1)) {
+        return false;
+    }
     let c = byte_at(text, at);
-    is_name_byte(c)
-        && !is_digit(c)
-        && (at == 0 || !is_name_byte(byte_at(text, at.saturating_sub(1))))
+    is_name_byte(c) && !is_digit(c)
 }
 
 /// The name at a place.
@@ -352,13 +450,46 @@ pub(crate) fn without_name(alloc: Global, text: &[u8], at: usize) -> Result<Vec<
     Ok(other)
 }
 
-/// The first line of some bytes without its line feed, and what follows that.
-pub(crate) fn first_line(bytes: &[u8]) -> (&[u8], &[u8])
+/// Bytes cut at a line feed.
+fn cut_at(bytes: &[u8], at: usize) -> (&[u8], &[u8])
+    requires { at < length bytes.now }
+    ensures line { result.0.now ≡ take at bytes.now }
+    ensures behind { result.1.now ≡ drop (suc at) bytes.now }
+{
+    let (line, rest) = bytes.split_at(at);
+    (line, rest.split_at(1).1)
+}
+
+/// The first line of some bytes without its line feed, what follows that, and what is known of the line. Most lines are plain.
+pub(crate) fn first_line(bytes: &[u8]) -> (&[u8], &[u8], LineKind)
     requires { 0 < length bytes.now }
     ensures lines { spec.lines_in bytes.now ≡ result.0.now ∷ spec.lines_in result.1.now }
     ensures less { length result.1.now < length bytes.now }
+    ensures kind { spec.IsKind result.2 result.0.now }
 {
-    for at in 0..bytes.len() {
+    let plain = plain_len(bytes);
+    if byte_at(bytes, plain) == b'\n' {
+        let (line, behind) = cut_at(bytes, plain);
+        return (line, behind, LineKind::Plain);
+    }
+    let inner = inner_len(bytes, plain);
+    if byte_at(bytes, inner) == b'\n' {
+        let (line, behind) = cut_at(bytes, inner);
+        return (line, behind, LineKind::Quiet);
+    }
+    let (line, behind) = ended_line(bytes, inner);
+    (line, behind, LineKind::Any)
+}
+
+/// The first line of some bytes without its line feed, and what follows that, where so many bytes at the front hold none.
+fn ended_line(bytes: &[u8], from: usize) -> (&[u8], &[u8])
+    requires some { 0 < length bytes.now }
+    requires within { from ≤ length bytes.now }
+    requires unended { (k : ℕ) → k < from → slice_index_or bytes.now k 0 ≡ 10 → ⊥ }
+    ensures lines { spec.lines_in bytes.now ≡ result.0.now ∷ spec.lines_in result.1.now }
+    ensures less { length result.1.now < length bytes.now }
+{
+    for at in from..bytes.len() {
         if bytes[at] == b'\n' {
             let (line, rest) = bytes.split_at(at);
             let (_, behind) = rest.split_at(1);

@@ -1,60 +1,69 @@
 //! The names of instructions: which the printer writes for one that the manual has besides.
 
-ghost use Rattle.std.specs.Prelude.{◌≡◌, ◌++◌, IfOk, OnOk};
+ghost use Rattle.std.specs.Prelude.{◌≡◌, ◌≢◌, ◌++◌, [], IsTrue, IfOk, IfSome, OnOk, MatchBool, MatchOption};
 ghost use Rattle.assembly_text.specs.Names as spec;
 
-use crate::line::{behind, byte_at, front_of, split_name, unindented};
+use crate::line::{SHORT_LEN, behind, byte_at, front_of, split_name, unindented};
+use arrayvec::ArrayVec;
 use intel_reader::mnemonics::is_mnemonic;
 use std::alloc::{AllocError, Global};
 
-/// How many bytes most names of instructions have at most.
-const NAME_LEN: usize = 16;
-
-/// The condition of another name for it, of those about carry and zero.
+/// The condition in place of one about carry or zero, if it has another name.
 #[tactic(auto, unfolding(crate::specs::Names::carry_condition))]
-fn carry_condition(word: &[u8]) -> &[u8]
-    ensures { result.now ≡ spec.carry_condition word.now }
+fn other_carry_condition(word: &[u8]) -> Option<&'static [u8]>
+    ensures { MatchOption result (spec.carry_condition word.now ≡ word.now) (λ other. spec.carry_condition word.now ≡ other.now) }
 {
     if word == b"z".as_slice() {
-        b"e"
+        Some(b"e")
     } else if word == b"nz".as_slice() {
-        b"ne"
+        Some(b"ne")
     } else if word == b"c".as_slice() {
-        b"b"
+        Some(b"b")
     } else if word == b"nae".as_slice() {
-        b"b"
+        Some(b"b")
     } else if word == b"nc".as_slice() {
-        b"ae"
+        Some(b"ae")
     } else if word == b"nb".as_slice() {
-        b"ae"
+        Some(b"ae")
     } else if word == b"na".as_slice() {
-        b"be"
+        Some(b"be")
     } else {
-        word
+        None
     }
 }
 
-/// The condition of another name for it.
+/// The condition in place of this one, if it has another name.
+#[inline]
 #[tactic(auto, unfolding(crate::specs::Names::condition))]
+fn other_condition(word: &[u8]) -> Option<&'static [u8]>
+    ensures { MatchOption result (spec.condition word.now ≡ word.now) (λ other. spec.condition word.now ≡ other.now) }
+{
+    if word == b"nbe".as_slice() {
+        Some(b"a")
+    } else if word == b"pe".as_slice() {
+        Some(b"p")
+    } else if word == b"po".as_slice() {
+        Some(b"np")
+    } else if word == b"nge".as_slice() {
+        Some(b"l")
+    } else if word == b"nl".as_slice() {
+        Some(b"ge")
+    } else if word == b"ng".as_slice() {
+        Some(b"le")
+    } else if word == b"nle".as_slice() {
+        Some(b"g")
+    } else {
+        other_carry_condition(word)
+    }
+}
+
+/// The condition that the printer writes.
 fn condition(word: &[u8]) -> &[u8]
     ensures { result.now ≡ spec.condition word.now }
 {
-    if word == b"nbe".as_slice() {
-        b"a"
-    } else if word == b"pe".as_slice() {
-        b"p"
-    } else if word == b"po".as_slice() {
-        b"np"
-    } else if word == b"nge".as_slice() {
-        b"l"
-    } else if word == b"nl".as_slice() {
-        b"ge"
-    } else if word == b"ng".as_slice() {
-        b"le"
-    } else if word == b"nle".as_slice() {
-        b"g"
-    } else {
-        carry_condition(word)
+    match other_condition(word) {
+        Some(other) => other,
+        None => word,
     }
 }
 
@@ -74,50 +83,72 @@ fn before_condition(word: &[u8]) -> usize
     }
 }
 
-/// The name of another name for it, of those that are not of the manual.
+/// The name in place of one that is not of the manual.
 #[tactic(auto, unfolding(crate::specs::Names::other_name))]
-fn other_name(word: &[u8]) -> &[u8]
-    ensures { result.now ≡ spec.other_name word.now }
+fn name_for(word: &[u8]) -> Option<&'static [u8]>
+    ensures { MatchOption result (spec.other_name word.now ≡ word.now) (λ other. spec.other_name word.now ≡ other.now) }
 {
     if word == b"loopz".as_slice() {
-        b"loope"
+        Some(b"loope")
     } else if word == b"loopnz".as_slice() {
-        b"loopne"
+        Some(b"loopne")
     } else if word == b"icebp".as_slice() {
-        b"int1"
+        Some(b"int1")
     } else if word == b"movabs".as_slice() {
-        b"mov"
+        Some(b"mov")
     } else if word == b"ud2a".as_slice() {
-        b"ud2"
+        Some(b"ud2")
     } else if word == b"ud2b".as_slice() {
-        b"ud1"
+        Some(b"ud1")
     } else {
-        word
+        None
     }
 }
 
-/// The name of another name for it.
+/// The name in place of this one, if it is another name for an instruction.
+#[inline]
 #[tactic(auto, unfolding(crate::specs::Names::plain_name))]
+fn other_name(word: &[u8]) -> Option<&'static [u8]>
+    ensures { MatchOption result (spec.plain_name word.now ≡ word.now) (λ other. spec.plain_name word.now ≡ other.now) }
+{
+    if word == b"sal".as_slice() {
+        Some(b"shl")
+    } else if word == b"fwait".as_slice() {
+        Some(b"wait")
+    } else if word == b"xlatb".as_slice() {
+        Some(b"xlat")
+    } else if word == b"retn".as_slice() {
+        Some(b"ret")
+    } else if word == b"lcall".as_slice() {
+        Some(b"callf")
+    } else if word == b"ljmp".as_slice() {
+        Some(b"jmpf")
+    } else if word == b"lret".as_slice() {
+        Some(b"retf")
+    } else {
+        name_for(word)
+    }
+}
+
+/// The name that the printer writes.
 fn plain_name(word: &[u8]) -> &[u8]
     ensures { result.now ≡ spec.plain_name word.now }
 {
-    if word == b"sal".as_slice() {
-        b"shl"
-    } else if word == b"fwait".as_slice() {
-        b"wait"
-    } else if word == b"xlatb".as_slice() {
-        b"xlat"
-    } else if word == b"retn".as_slice() {
-        b"ret"
-    } else if word == b"lcall".as_slice() {
-        b"callf"
-    } else if word == b"ljmp".as_slice() {
-        b"jmpf"
-    } else if word == b"lret".as_slice() {
-        b"retf"
-    } else {
-        other_name(word)
+    match other_name(word) {
+        Some(other) => other,
+        None => word,
     }
+}
+
+/// Whether the printer writes a name as it stands.
+fn is_own_name(word: &[u8]) -> bool
+    ensures { IsTrue result → spec.stem word.now ++ spec.ending word.now ≡ word.now }
+{
+    let count = before_condition(word);
+    if count == word.len() {
+        return other_name(word).is_none();
+    }
+    other_name(front_of(word, count)).is_none() && other_condition(behind(word, count)).is_none()
 }
 
 /// Whether a word is a prefix that the printer writes.
@@ -188,10 +219,20 @@ fn behind_prefix(text: &[u8]) -> &[u8]
     }
 }
 
-/// What follows three prefixes: the name and the operands.
+/// Whether a text begins with a prefix.
+fn has_prefix(text: &[u8]) -> bool
+    ensures { MatchBool result (spec.prefix_of (spec.first_word text.now) ≢ []) (spec.prefix_of (spec.first_word text.now) ≡ []) }
+{
+    !prefix_of(first_word(text)).is_empty()
+}
+
+/// What follows three prefixes: the name and the operands. Most texts have no prefix.
 pub(crate) fn named_text(text: &[u8]) -> &[u8]
     ensures { result.now ≡ spec.named_text text.now }
 {
+    if !has_prefix(text) {
+        return text;
+    }
     behind_prefix(behind_prefix(behind_prefix(text)))
 }
 
@@ -213,22 +254,43 @@ fn put_prefix(out: &mut Vec<u8>, text: &[u8]) -> Result<(), AllocError>
 fn put_name(out: &mut Vec<u8>, word: &[u8]) -> Result<(), AllocError>
     ensures { OnOk result (out.new.items ≡ out.old.items ++ (spec.stem word.now ++ spec.ending word.now)) }
 {
+    if is_own_name(word) {
+        return out.extend_from_slice(word);
+    }
     let count = before_condition(word);
     out.extend_from_slice(plain_name(front_of(word, count)))?;
     out.extend_from_slice(condition(behind(word, count)))?;
     Ok(())
 }
 
-/// Appends the prefix words and the name as the printer writes them.
+/// Appends the prefix words and the name as the printer writes them. Most texts have no prefix.
 pub(crate) fn put_head(out: &mut Vec<u8>, text: &[u8]) -> Result<(), AllocError>
     ensures { OnOk result (out.new.items ≡ out.old.items ++ spec.head_text text.now) }
 {
+    if !has_prefix(text) {
+        return put_name(out, first_word(text));
+    }
     let second = behind_prefix(text);
     let third = behind_prefix(second);
     put_prefix(out, text)?;
     put_prefix(out, second)?;
     put_prefix(out, third)?;
     put_name(out, first_word(behind_prefix(third)))
+}
+
+/// The name that the printer writes for a name, if it is short.
+fn short_name(word: &[u8]) -> Option<ArrayVec<u8, SHORT_LEN>>
+    ensures { IfSome result (λ name. name.items ≡ spec.stem word.now ++ spec.ending word.now) }
+{
+    let count = before_condition(word);
+    let mut name = ArrayVec::new();
+    if let Err(_) = name.try_extend_from_slice(plain_name(front_of(word, count))) {
+        return None;
+    }
+    if let Err(_) = name.try_extend_from_slice(condition(behind(word, count))) {
+        return None;
+    }
+    Some(name)
 }
 
 /// Whether a word in lower case is a prefix, or one of the names of an instruction.
@@ -239,7 +301,13 @@ pub(crate) fn is_instruction_name(alloc: Global, word: &[u8]) -> Result<bool, Al
     if !prefix_of(word).is_empty() {
         return Ok(true);
     }
-    let mut name = Vec::with_capacity(alloc, NAME_LEN)?;
+    if is_own_name(word) {
+        return Ok(is_mnemonic(word));
+    }
+    if let Some(name) = short_name(word) {
+        return Ok(is_mnemonic(&name));
+    }
+    let mut name = Vec::new(alloc);
     put_name(&mut name, word)?;
     Ok(is_mnemonic(&name))
 }

@@ -6,6 +6,7 @@ ghost use Rattle.assembly_text.specs.Placing as spec;
 
 use crate::code::Code;
 use crate::drafts::{Draft, is_relative};
+use crate::kept::no_kept;
 use crate::line::lowered;
 use crate::names::{behind_word, named_text};
 use crate::numbers::{freed_behind, placed_behind};
@@ -105,7 +106,8 @@ pub(crate) fn placed_code(
     let named = lowered(alloc, text)?;
     let low = lowered(alloc, placed)?;
     let statement = placed_statement(bits, &statement_of(&named), &statement_of(&low));
-    spelled_code(alloc, bits, base, &low, &statement)
+    let mut kept = no_kept(alloc, bits, base, 0)?;
+    spelled_code(alloc, &mut kept, bits, base, &low, &statement)
 }
 
 /// Whether this is an instruction that goes to no name.

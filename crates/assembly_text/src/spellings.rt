@@ -1,6 +1,6 @@
 //! Operands that people swap or leave out: which operands an instruction has if it is none with those that it is given.
 
-ghost use Rattle.std.specs.Prelude.{◌≡◌};
+ghost use Rattle.std.specs.Prelude.{◌≡◌, ◌&&◌, true, bytes_eq, codes};
 ghost use Rattle.assembly_text.specs.Spellings as spec;
 
 use crate::data::is_front;
@@ -498,14 +498,25 @@ fn is_accumulator(part: &Option<Draft>) -> bool
     }
 }
 
-/// The operands in the order in which they are read first: the accumulator of XCHG is the second.
+/// Whether the operands are read first in another order, if there are two: the accumulator of XCHG is the second.
+fn is_reordered(low: &[u8], s: &Statement) -> bool
+    ensures { result ≡ (spec.is_accumulator s.now.first && bytes_eq (spec.word_of low.now) (codes "xchg")) }
+{
+    is_accumulator(&s.first) && word_of(low) == b"xchg".as_slice()
+}
+
+/// The operands in the order in which they are read first.
 #[tactic(auto, unfolding(crate::specs::Spellings::preferred))]
 pub(crate) fn preferred(low: &[u8], s: &Statement) -> Statement
     ensures { result ≡ spec.preferred low.now s.now }
 {
-    if is_accumulator(&s.first) && word_of(low) == b"xchg".as_slice() {
-        swapped(s)
-    } else {
-        *s
-    }
+    if is_reordered(low, s) { swapped(s) } else { *s }
+}
+
+/// Whether the operands stand in the order in which they are read first.
+#[tactic(auto, unfolding(crate::specs::Spellings::preferred))]
+pub(crate) fn is_preferred(low: &[u8], s: &Statement) -> bool
+    ensures { result ≡ true → spec.preferred low.now s.now ≡ s.now }
+{
+    !is_reordered(low, s)
 }

@@ -343,7 +343,7 @@ fn put_plain(out: &mut Vec<u8>, width: Width, d: &Draft) -> Result<(), AllocErro
 
 /// Appends an operand.
 #[tactic(auto, unfolding(crate::specs::Statements::operand_text))]
-fn put_operand(
+pub(crate) fn put_operand(
     out: &mut Vec<u8>,
     bits: Bits,
     size: SizeName,
@@ -379,7 +379,7 @@ fn put_part(
     }
 }
 
-/// Appends the text of the printer for a front, with this head, and operands.
+/// Appends operands to the head of a front: the text of the printer.
 #[tactic(auto, unfolding(crate::specs::Statements::full_text))]
 pub(crate) fn put_full(
     out: &mut Vec<u8>,
@@ -387,13 +387,11 @@ pub(crate) fn put_full(
     size: SizeName,
     width: Width,
     low: &[u8],
-    head: &[u8],
     s: &Statement,
 ) -> Result<(), AllocError>
-    requires { head.now ≡ head_text low.now }
-    ensures { OnOk result (out.new.items ≡ out.old.items ++ spec.full_text bits size width low.now s.now) }
+    requires { out.old.items ≡ head_text low.now }
+    ensures { OnOk result (out.new.items ≡ spec.full_text bits size width low.now s.now) }
 {
-    out.extend_from_slice(head)?;
     put_part(out, bits, size, width, b" ", &s.first)?;
     put_part(out, bits, size, width, b", ", &s.second)?;
     put_part(out, bits, size, width, b", ", &s.third)?;
@@ -421,23 +419,26 @@ fn comma_at(text: &[u8]) -> usize
     text.len()
 }
 
-/// What follows the first comma.
-fn behind_comma(text: &[u8]) -> &[u8]
+/// What follows the first comma, which so many bytes precede.
+fn behind_comma(text: &[u8], len: usize) -> &[u8]
+    requires { len ≡ spec.comma_at text.now }
     ensures { result.now ≡ spec.behind_comma text.now }
 {
-    behind(text, comma_at(text).saturating_add(1))
+    behind(text, len.saturating_add(1))
 }
 
-/// The operand before the first comma of a text that begins at a place, if it has bytes.
+/// Reads the operand before the first comma of a text that begins at a place, if it has bytes.
 #[tactic(auto, unfolding(crate::specs::Statements::operand_at))]
-fn operand_at(at: usize, text: &[u8]) -> Option<Draft>
-    requires { at + length text.now < 2 ^ 64 }
-    ensures { result ≡ spec.operand_at at text.now }
+fn read_operand(out: &mut Option<Draft>, at: usize, text: &[u8], len: usize)
+    requires place { at + length text.now < 2 ^ 64 }
+    requires len { len ≡ spec.comma_at text.now }
+    ensures { out.new ≡ spec.operand_at at text.now }
 {
-    if text.is_empty() {
-        return None;
-    }
-    Some(operand_in(at, front_of(text, comma_at(text))))
+    *out = if text.is_empty() {
+        None
+    } else {
+        Some(operand_in(at, front_of(text, len)))
+    };
 }
 
 /// The operands of a text that begins at a place.
@@ -446,19 +447,29 @@ fn operands_from(at: usize, text: &[u8]) -> Statement
     requires { at + length text.now + 4 < 2 ^ 64 }
     ensures { result ≡ spec.operands_from at text.now }
 {
-    let second = behind_comma(text);
-    let second_at = at + comma_at(text) + 1;
-    let third = behind_comma(second);
-    let third_at = second_at + comma_at(second) + 1;
-    let fourth = behind_comma(third);
-    let fourth_at = third_at + comma_at(third) + 1;
-    Statement {
-        first: operand_at(at, text),
-        second: operand_at(second_at, second),
-        third: operand_at(third_at, third),
-        fourth: operand_at(fourth_at, fourth),
-        closed: last_byte(text) != b',' && behind_comma(fourth).is_empty(),
-    }
+    let mut s = Statement {
+        first: None,
+        second: None,
+        third: None,
+        fourth: None,
+        closed: false,
+    };
+    let first_len = comma_at(text);
+    read_operand(&mut s.first, at, text, first_len);
+    let second = behind_comma(text, first_len);
+    let second_at = at + first_len + 1;
+    let second_len = comma_at(second);
+    read_operand(&mut s.second, second_at, second, second_len);
+    let third = behind_comma(second, second_len);
+    let third_at = second_at + second_len + 1;
+    let third_len = comma_at(third);
+    read_operand(&mut s.third, third_at, third, third_len);
+    let fourth = behind_comma(third, third_len);
+    let fourth_at = third_at + third_len + 1;
+    let fourth_len = comma_at(fourth);
+    read_operand(&mut s.fourth, fourth_at, fourth, fourth_len);
+    s.closed = last_byte(text) != b',' && behind_comma(fourth, fourth_len).is_empty();
+    s
 }
 
 /// What a text in lower case says.
@@ -563,7 +574,7 @@ fn is_negative_part(part: &Option<Draft>) -> bool
 
 /// Whether an operand is a number below 0.
 #[tactic(auto, unfolding(crate::specs::Statements::has_negative))]
-fn has_negative(s: &Statement) -> bool
+pub(crate) fn has_negative(s: &Statement) -> bool
     ensures { result ≡ spec.has_negative s.now }
 {
     is_negative_part(&s.first)

@@ -1,10 +1,11 @@
 //! What the lines of a text add to a routine in a round.
 
-ghost use Rattle.std.specs.Prelude.{◌≡◌, ◌⊎◌, ◌<◌, ◌≤◌, length, true, false, IfOk, IfErr, OnOk, MatchOption, MatchResult, Some, None};
+ghost use Rattle.std.specs.Prelude.{◌≡◌, ◌⊎◌, ◌<◌, ◌≤◌, length, true, false, IfOk, IfErr, IfSome, OnOk, MatchOption, MatchResult, Some, None};
+ghost use Rattle.code_assembler.specs.Built.{with_item, with_labels, push_refusal};
 ghost use Rattle.code_assembler.specs.declared.error.BuildError.TheVariants.{Memory};
 ghost use Rattle.assembly_text.specs.declared.code.Code.{Code};
 ghost use Rattle.assembly_text.specs.Constants.{bad_from};
-ghost use Rattle.assembly_text.specs.Known.{AreKnown};
+ghost use Rattle.assembly_text.specs.Known.{IsFor, AreKnown};
 ghost use Rattle.assembly_text.specs.Labels.{begins_label as begins_at};
 ghost use Rattle.assembly_text.specs.Lines as lines;
 ghost use Rattle.assembly_text.specs.Names as names;
@@ -14,24 +15,25 @@ ghost use Rattle.assembly_text.specs.Placing.{view_of, zeroed as zero_view, plac
 ghost use Rattle.assembly_text.specs.Rounds as rounds;
 ghost use Rattle.assembly_text.specs.Text as spec;
 
-use crate::code::Code;
+use crate::code::{Code, PreparedCode, found_code, prepared, unprepared};
 use crate::constants::bad_name;
 use crate::data::{data_width, put_data};
+use crate::kept::{KeptTexts, free_code, read_kept};
 use crate::known::{Known, code_before, keep};
 use crate::labels::{Labels, begins_label, is_label_name, label_named};
 use crate::line::{
-    LineParts, body_column, code_of, first_line, name_at, parts_of, shown_column, without_name,
+    LineParts, begins_name, body_column, first_line, line_parts, name_at, shown_column,
+    without_name,
 };
 use crate::names::{behind_word, first_word};
 use crate::numbers::{freed, placed, resolved};
 use crate::origins::{Built, Origin, no_origins, note};
 use crate::padding::{alignment_in, gap, is_align, padding};
 use crate::placing::{is_nothing, is_unfit, is_whole, placed_code, placed_text, unknown_in};
-use crate::readings::free_code;
 use crate::round::{Round, Trace, no_trace, place_at, zeroed};
 use crate::text_error::{AssembleError, LineError};
-use code_assembler::{Assembler, BuildError};
-use intel_reader::read_intel;
+use code_assembler::{Assembler, BuildError, Label, Prepared};
+use intel_reader::read_with_bytes;
 use move_goals::moved_targets::target_of;
 use std::alloc::{AllocError, Global};
 use x86_values::{Bits, Instr};
@@ -39,44 +41,70 @@ use x86_values::{Bits, Instr};
 /// How many labels a text has at most.
 const MOST_LABELS: usize = 65_536;
 
+/// How many items of a routine get room at once at most.
+const MOST_ROOM: usize = 65_536;
+
+/// How many bytes of a text there are for each item that gets room at once.
+const BYTES_EACH: usize = 16;
+
 /// The instruction with 0x0 in place of the name at a place, if there is one that goes somewhere.
-fn instr_at(alloc: Global, bits: Bits, text: &[u8], at: usize) -> Result<Option<Instr>, AllocError>
+fn instr_at(
+    alloc: Global,
+    kept: &mut KeptTexts,
+    bits: Bits,
+    text: &[u8],
+    at: usize,
+) -> Result<Option<Instr>, AllocError>
     requires { at ≤ length text.now }
     ensures { IfOk result (λ found. MatchOption found (spec.IsNotNamed bits text.now at) (λ i. spec.IsAimedAt bits text.now at i)) }
 {
     let other = without_name(alloc, text, at)?;
-    match read_intel(bits, 0, &other) {
-        Ok(instr) => {
+    match read_kept(kept, bits, &other) {
+        Some(instr) => {
             if target_of(&instr).is_some() {
                 Ok(Some(instr))
             } else {
                 Ok(None)
             }
         }
-        Err(_) => Ok(None),
+        None => Ok(None),
     }
 }
 
 /// The instruction with 0x0 in place of the name at a place, if one that may be that of a label begins there and the instruction goes somewhere.
-fn named_at(alloc: Global, bits: Bits, text: &[u8], at: usize) -> Result<Option<Instr>, AllocError>
+fn named_at(
+    alloc: Global,
+    kept: &mut KeptTexts,
+    bits: Bits,
+    text: &[u8],
+    at: usize,
+) -> Result<Option<Instr>, AllocError>
     requires { at ≤ length text.now }
     ensures { IfOk result (λ found. MatchOption found (begins_at text.now at ≡ true → spec.IsNotNamed bits text.now at)
         (λ i. (begins_at text.now at ≡ true) × spec.IsAimedAt bits text.now at i)) }
 {
     let begins = begins_label(alloc, text, at)?;
     if begins {
-        instr_at(alloc, bits, text, at)
+        instr_at(alloc, kept, bits, text, at)
     } else {
         Ok(None)
     }
 }
 
 /// The first name with which a text stands for an instruction that goes somewhere.
-fn named_in(alloc: Global, bits: Bits, text: &[u8]) -> Result<Option<(usize, Instr)>, AllocError>
+fn named_in(
+    alloc: Global,
+    kept: &mut KeptTexts,
+    bits: Bits,
+    text: &[u8],
+) -> Result<Option<(usize, Instr)>, AllocError>
     ensures { IfOk result (λ found. MatchOption found (spec.IsUnnamed bits text.now) (λ named. spec.IsNamed bits text.now named.0 named.1)) }
 {
     'places: for at in 0..text.len() {
-        let found = named_at(alloc, bits, text, at)?;
+        if !begins_name(text, at) {
+            continue;
+        }
+        let found = named_at(alloc, kept, bits, text, at)?;
         match found {
             Some(instr) => return Ok(Some((at, instr))),
             None => {}
@@ -86,23 +114,39 @@ fn named_in(alloc: Global, bits: Bits, text: &[u8]) -> Result<Option<(usize, Ins
 }
 
 /// What a text stands for that `asm` does not read.
-fn further_code(alloc: Global, bits: Bits, base: u64, text: &[u8]) -> Result<Code, AllocError>
+fn further_code(
+    alloc: Global,
+    kept: &mut KeptTexts,
+    bits: Bits,
+    base: u64,
+    text: &[u8],
+) -> Result<Code, AllocError>
     ensures { IfOk result (λ code. spec.IsFurtherCode bits base text.now code) }
 {
-    let named = named_in(alloc, bits, text)?;
+    let named = named_in(alloc, kept, bits, text)?;
     match named {
         Some((at, instr)) => Ok(Code::Named(at, instr)),
-        None => free_code(alloc, bits, base, text),
+        None => free_code(alloc, kept, bits, base, text),
     }
 }
 
-/// What a text stands for.
-fn code_in(alloc: Global, bits: Bits, base: u64, text: &[u8]) -> Result<Code, AllocError>
-    ensures { IfOk result (λ code. spec.IsCode bits base text.now code) }
+/// What a text stands for, with its instruction prepared.
+fn code_in(
+    alloc: Global,
+    kept: &mut KeptTexts,
+    bits: Bits,
+    base: u64,
+    text: &[u8],
+) -> Result<PreparedCode, AllocError>
+    ensures code { IfOk result (λ read. spec.IsCode bits base text.now read.code) }
+    ensures ready { IfOk result (λ read. IsFor bits read.code read.ready) }
 {
-    match read_intel(bits, base, text) {
-        Ok(instr) => Ok(Code::Plain(instr)),
-        Err(_) => further_code(alloc, bits, base, text),
+    match read_with_bytes(bits, base, text) {
+        Ok(found) => Ok(found_code(bits, base, found)),
+        Err(_) => {
+            let code = further_code(alloc, kept, bits, base, text)?;
+            Ok(prepared(bits, code))
+        }
     }
 }
 
@@ -117,22 +161,58 @@ fn told(answer: Result<(), BuildError>) -> Result<Option<LineError>, AllocError>
     }
 }
 
+/// Adds an instruction, which may be prepared.
+fn push_instr(
+    routine: &mut Assembler,
+    instr: &Instr,
+    ready: &Option<Prepared>,
+) -> Result<(), BuildError>
+    requires { IfSome ready.now (λ it. it.instr ≡ instr.now) }
+    ensures state { OnOk result ((push_refusal routine.old instr.now None ≡ None) × (routine.new ≡ with_item routine.old instr.now None)) }
+    ensures cause { IfErr result (λ why. (push_refusal routine.old instr.now None ≡ Some why) ⊎ (why ≡ Memory)) }
+{
+    match ready {
+        None => routine.push(instr),
+        Some(it) => routine.push_prepared(it),
+    }
+}
+
+/// Adds an instruction that goes to a label. It may be prepared.
+fn push_instr_to(
+    routine: &mut Assembler,
+    instr: &Instr,
+    ready: &Option<Prepared>,
+    label: Label,
+) -> Result<(), BuildError>
+    requires { IfSome ready.now (λ it. it.instr ≡ instr.now) }
+    ensures state { OnOk result ((push_refusal routine.old instr.now (Some label.number) ≡ None)
+        × (routine.new ≡ with_item routine.old instr.now (Some label.number))) }
+    ensures cause { IfErr result (λ why. (push_refusal routine.old instr.now (Some label.number) ≡ Some why) ⊎ (why ≡ Memory)) }
+{
+    match ready {
+        None => routine.push_to(instr, label),
+        Some(it) => routine.push_prepared_to(it, label),
+    }
+}
+
 /// Adds what a text stands for.
+#[inline(always)]
 fn push_code(
     routine: &mut Assembler,
     labels: &Labels<'_>,
     body: &[u8],
-    code: &Code,
+    read: &PreparedCode,
 ) -> Result<Option<LineError>, AllocError>
-    ensures { IfOk result (λ refused. MatchOption refused (spec.AddsCode (lines.lines_in labels.now.text.now) body.now code.now routine.old routine.new)
-        (λ why. spec.RefusesCode (lines.lines_in labels.now.text.now) body.now code.now routine.old why)) }
+    requires { IsFor routine.old.bits read.now.code read.now.ready }
+    ensures { IfOk result (λ refused. MatchOption refused (spec.AddsCode (lines.lines_in labels.now.text.now) body.now read.now.code routine.old routine.new)
+        (λ why. spec.RefusesCode (lines.lines_in labels.now.text.now) body.now read.now.code routine.old why)) }
 {
-    match code {
-        Code::Plain(instr) => told(routine.push(instr)),
+    match &read.code {
+        Code::Plain(instr) => told(push_instr(routine, instr, &read.ready)),
         Code::Named(at, instr) => {
             match label_named(routine, labels, name_at(body, *at)) {
                 None => Ok(Some(LineError::UnknownName)),
-                Some(label) => told(routine.push_to(instr, label)),
+                Some(label) => told(push_instr_to(routine, instr, &read.ready, label)),
             }
         }
         Code::Unsized => Ok(Some(LineError::SizeNeeded)),
@@ -320,7 +400,7 @@ fn add_placed(
         let why = unfit_refusal(alloc, bits, round, body)?;
         return Ok(Some(why));
     }
-    push_code(routine, round.labels, placed, &code)
+    push_code(routine, round.labels, placed, &unprepared(code))
 }
 
 /// Adds what a text stands for that has no names of labels.
@@ -329,39 +409,42 @@ fn add_closed(
     routine: &mut Assembler,
     round: &Round<'_, '_, '_>,
     body: &[u8],
-    code: &Code,
+    read: &PreparedCode,
 ) -> Result<Option<LineError>, AllocError>
-    ensures { IfOk result (λ refused. MatchOption refused (spec.AddsCode (view_of round.now).all body.now code.now routine.old routine.new)
-        (λ why. spec.RefusesClosed (view_of round.now) body.now code.now routine.old why)) }
+    requires { IsFor routine.old.bits read.now.code read.now.ready }
+    ensures { IfOk result (λ refused. MatchOption refused (spec.AddsCode (view_of round.now).all body.now read.now.code routine.old routine.new)
+        (λ why. spec.RefusesClosed (view_of round.now) body.now read.now.code routine.old why)) }
 {
-    if is_nothing(code) {
+    if is_nothing(&read.code) {
         let why = unknown_in(alloc, routine.bits(), round.base, body)?;
         return Ok(Some(why));
     }
-    push_code(routine, round.labels, body, code)
+    push_code(routine, round.labels, body, read)
 }
 
 /// Adds what a text stands for.
+#[inline(always)]
 fn add_read(
     alloc: Global,
     routine: &mut Assembler,
     round: &Round<'_, '_, '_>,
     trace: &mut Trace,
     body: &[u8],
-    code: &Code,
+    read: &PreparedCode,
 ) -> Result<Option<LineError>, AllocError>
-    requires { spec.IsCode routine.old.bits (view_of round.now).base body.now code.now }
+    requires read { spec.IsCode routine.old.bits (view_of round.now).base body.now read.now.code }
+    requires prepared { IsFor routine.old.bits read.now.code read.now.ready }
     ensures { IfOk result (λ refused. MatchOption refused
         (spec.AddsStated (view_of round.now) body.now routine.old trace.old routine.new trace.new)
         (λ why. spec.RefusesStated (view_of round.now) body.now routine.old why)) }
 {
     trace.after_data = false;
-    if is_whole(code) {
-        return push_code(routine, round.labels, body, code);
+    if is_whole(&read.code) {
+        return push_code(routine, round.labels, body, read);
     }
     let placed = placed_text(alloc, round, body)?;
     if placed.as_slice() == body {
-        return add_closed(alloc, routine, round, body, code);
+        return add_closed(alloc, routine, round, body, read);
     }
     trace.placed = true;
     add_placed(alloc, routine, round, body, &placed)
@@ -385,9 +468,10 @@ fn add_code(
     ensures known { AreKnown known.new }
 {
     let bits = routine.bits();
-    let code = code_in(alloc, bits, round.base, body)?;
-    keep(known, bits, round.base, body, code);
-    add_read(alloc, routine, round, trace, body, &code)
+    let read = code_in(alloc, &mut known.kept, bits, round.base, body)?;
+    let refused = add_read(alloc, routine, round, trace, body, &read)?;
+    keep(known, bits, round.base, body, read);
+    Ok(refused)
 }
 
 /// Adds what the words of a line say that is no data.
@@ -432,8 +516,8 @@ fn add_words(
     ensures known { AreKnown known.new }
 {
     let bits = routine.bits();
-    if let Some(code) = code_before(known, bits, round.base, body) {
-        return add_read(alloc, routine, round, trace, body, code);
+    if let Some(read) = code_before(known, bits, round.base, body) {
+        return add_read(alloc, routine, round, trace, body, read);
     }
     let width = data_width(first_word(body));
     if width > 0 {
@@ -508,6 +592,20 @@ fn column_of(line: &[u8], why: LineError) -> usize
     }
 }
 
+/// A routine with so many labels, with room for the items of so many bytes of text.
+fn with_room(
+    alloc: Global,
+    bits: Bits,
+    labels: usize,
+    bytes: usize,
+) -> Result<Assembler, BuildError>
+    ensures { IfOk result (λ routine. routine ≡ with_labels bits labels) }
+{
+    let mut routine = Assembler::with_labels(alloc, bits, labels)?;
+    routine.reserve((bytes / BYTES_EACH).min(MOST_ROOM))?;
+    Ok(routine)
+}
+
 /// The routine of the lines of a text in a round, or why there is none.
 fn routine_of(
     alloc: Global,
@@ -525,7 +623,7 @@ fn routine_of(
     if count > MOST_LABELS {
         return Err(AssembleError::TooManyLabels);
     }
-    let mut routine = match Assembler::with_labels(alloc, bits, count) {
+    let mut routine = match with_room(alloc, bits, count, round.labels.text.len()) {
         Ok(routine) => routine,
         Err(_) => return Err(AssembleError::NoMemory),
     };
@@ -534,8 +632,8 @@ fn routine_of(
     let mut rest = round.labels.text;
     let mut number: u64 = 0;
     'lines: while !rest.is_empty() {
-        let (line, behind) = first_line(rest);
-        let parts = parts_of(code_of(line));
+        let (line, behind, kind) = first_line(rest);
+        let parts = line_parts(line, kind);
         number += 1;
         let refused = match add_line(alloc, &mut routine, round, &mut trace, known, line, &parts) {
             Ok(refused) => refused,

@@ -59,7 +59,7 @@ pub fn label_lines(alloc: Global, text: &[u8]) -> Result<Vec<LabelLine>, AllocEr
     let mut number: u64 = 1;
     let mut offset: u64 = 0;
     'lines: while !rest.is_empty() {
-        let (line, behind) = first_line(rest);
+        let (line, behind, _) = first_line(rest);
         put_label(&mut labels, number, offset, line)?;
         number += 1;
         offset += line.len() as u64 + 1;

@@ -1,7 +1,7 @@
 //! Routines with labels. The bytes are worked out manually from the manual's encodings.
 
 use crate::tests::compare::same;
-use code_assembler::{Assembler, BuildError, FinishError, Label};
+use code_assembler::{Assembler, BuildError, FinishError, Label, Prepared};
 use decoder::decode_in;
 use std::alloc::Global;
 use std::process::Abort;
@@ -160,6 +160,39 @@ fn branches_grow(rt: HostRuntime) -> Result<(), Fail> {
         same(&rt, want, &hex::encode(alloc, tail)?.as_str(), &want);
         same(&rt, "the label", &made.address(again), &Some(0x1000));
     }
+    Ok(())
+}
+
+/// Instructions that were prepared for a mode are added as any other, in that mode and in another one, where the
+/// jump of 32 bits has a prefix: a: nop; jmp a.
+#[test]
+fn prepared_lines_are_added(rt: HostRuntime) -> Result<(), Fail> {
+    let alloc = rt.alloc();
+    let nop = Prepared::new(Bits::B32, &instr_of(alloc, Bits::B32, "90")?)?;
+    let jump = Prepared::new(Bits::B32, &instr_of(alloc, Bits::B32, "eb00")?)?;
+    for (bits, want) in [(Bits::B32, "90ebfd"), (Bits::B16, "9066ebfc")] {
+        let mut routine = Assembler::new(alloc, bits);
+        routine.reserve(2)?;
+        let again = routine.label()?;
+        routine.place(again)?;
+        routine.push_prepared(&nop)?;
+        routine.push_prepared_to(&jump, again)?;
+        let refused = routine.push_prepared_to(&nop, again);
+        same(&rt, "no target", &refused, &Err(BuildError::NoTarget));
+        let made = routine.finish(alloc, 0x1000)?;
+        let found = hex::encode(alloc, made.bytes())?;
+        same(&rt, want, &found.as_str(), &want);
+    }
+    let wrong = Instr {
+        code: Code(0xffff),
+        ..nop.instr()
+    };
+    same(
+        &rt,
+        "no row",
+        &Prepared::new(nop.bits(), &wrong).is_err(),
+        &true,
+    );
     Ok(())
 }
 

@@ -148,6 +148,37 @@ const CASES: &[Case] = &[
         "mov [rbx], 5",
         "line 1, column 1: the address needs a size",
     ),
+    // one size has an instruction, also beside a number below 0; several have; none has, also for two addresses
+    (
+        Bits::B64,
+        0,
+        "add rcx,[rsp+8]\ncmpxchg16b [rdi]\nlea rax,[rbx]\nvmovaps ymm1,[rax]\nimul eax,[rbx],-3",
+        "48034c2408480fc70f488d03c5fc28086b03fd",
+    ),
+    (
+        Bits::B64,
+        0,
+        "ret\nfld [rax]",
+        "line 2, column 1: the address needs a size",
+    ),
+    (
+        Bits::B64,
+        0,
+        "cmp [rbx], -1",
+        "line 1, column 1: the address needs a size",
+    ),
+    (
+        Bits::B64,
+        0,
+        "ret\nbt [rax], cl",
+        "line 2, column 1: no instruction has this text",
+    ),
+    (
+        Bits::B64,
+        0,
+        "mov [rax], [rbx]",
+        "line 1, column 1: no instruction has this text",
+    ),
     (
         Bits::B64,
         0,

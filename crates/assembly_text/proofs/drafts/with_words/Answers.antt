@@ -10,8 +10,8 @@ words-preserved c =
     let n = c.word_len-len.result in
     let long : 0 < length rest = omega (arith, c.word_len-len.ensures.some, c.word_len-len.ensures.within) in
     let step = one_word c.words.d c.words.at n rest c.word_len-len.ensures.some c.word_len-len.ensures.value long in
-    let is : with_words c.words.d c.words.at 0 rest ≡ with_words c.with_word-d.result (c.words.at + n) 0 c.split_at.result.1.now =
-    rw (c.with_word-d.ensures, c.class_of.ensures, c.split_at.ensures.front, c.split_at.ensures.back) step in
+    let is : with_words c.words.d c.words.at 0 rest ≡ with_words c.with_word.new.d (c.words.at + n) 0 c.split_at.result.1.now =
+    rw (c.with_word.ensures, c.class_of.ensures, c.split_at.ensures.front, c.split_at.ensures.back) step in
     record {
       same = c.words.invariant.same ∙ is;
       near = omega (arith, c.words.invariant.near, c.split_at.ensures.back_len, c.word_len-len.ensures.within);

@@ -1,5 +1,6 @@
 use Rattle.std.proofs.Common.{subst}
 use Rattle.x86_values.specs.declared.Bits.{Bits}
+use Rattle.assembly_text.specs.Known.{IsFor}
 use Rattle.assembly_text.specs.Placing.{view_of}
 use Rattle.assembly_text.specs.Text.{IsCode}
 use Rattle.assembly_text.proofs.Telling.{data_told, further_told, read_told}
@@ -17,8 +18,12 @@ returns-else-width-gt0-clause-told c =
 
 pub returns-in-Some-clause-told : goal.returns-in-Some-clause-told
 returns-in-Some-clause-told c =
-    read_told (view_of c.args.round.now) c.args.body.now c.args.body.now _ _ _ _ c.add_read.result c.in-Some.ensures.no_data c.in-Some.ensures.no_align c.add_read.ensures
+    read_told (view_of c.args.round.now) c.args.body.now c.args.body.now _ _ _ _ c.add_read.result c.in-Some.ensures.stands.no_data c.in-Some.ensures.stands.no_align c.add_read.ensures
 
 pub add_read-requires : goal.add_read-requires
 add_read-requires c =
-    subst (λ (b : Bits). IsCode b c.args.round.now.base c.args.body.now c.in-Some.code.now) c.bits-bits.ensures c.in-Some.ensures.is
+    let read = c.in-Some.read.now in
+    record {
+      read = subst (λ (b : Bits). IsCode b c.args.round.now.base c.args.body.now read.code) c.bits-bits.ensures c.in-Some.ensures.stands.is;
+      prepared = subst (λ (b : Bits). IsFor b read.code read.ready) c.bits-bits.ensures c.in-Some.ensures.prepared;
+    }

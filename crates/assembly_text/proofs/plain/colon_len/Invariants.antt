@@ -1,0 +1,21 @@
+use Rattle.std.proofs.Common.{◌≡◌, ℕ, ◌-◌, ◌<◌, ◌≤◌, true, length, get_or}
+use Rattle.assembly_text.specs.Lines.{is_no_colon}
+use Rattle.assembly_text.proofs.plain.colon_len.Given as goal
+
+abbrev pub invariant-runs : goal.invariant-runs
+invariant-runs l = record {
+  within : l.at ≤ length l.text;
+  none : (k : ℕ) → k < l.at → is_no_colon (get_or l.text k 0) ≡ true;
+}
+
+abbrev pub decreases-runs : goal.decreases-runs
+decreases-runs l = length l.text - l.at
+
+abbrev pub invariant-bytes : goal.invariant-bytes
+invariant-bytes l = record {
+  within : l.at ≤ length l.text;
+  none : (k : ℕ) → k < l.at → is_no_colon (get_or l.text k 0) ≡ true;
+}
+
+abbrev pub decreases-bytes : goal.decreases-bytes
+decreases-bytes l = length l.text - l.at
