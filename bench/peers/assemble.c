@@ -1,4 +1,5 @@
 // The library for C: the file is a routine as text, and is assembled whole at 0x400000, in 16-bit mode at 0x4000. An item is a line.
+#include <string.h>
 #include "measure.h"
 #include "feddurzai.h"
 
@@ -16,8 +17,8 @@ static void sweep(const uint8_t *bytes, size_t size, int bits, struct counts *co
         fprintf(stderr, "refused: status %d in line %llu\n", (int)said, (unsigned long long)report.line);
         exit(1);
     }
-    for (size_t at = 0; at < size; at++)
-        counts->items += bytes[at] == '\n';
+    for (const uint8_t *at = bytes; (at = memchr(at, '\n', size - (size_t)(at - bytes))) != NULL; at++)
+        counts->items++;
     counts->sum += report.bytes;
 }
 
