@@ -1,6 +1,7 @@
 //! Instructions that are prepared, to be added to routines.
 
-ghost use Rattle.std.specs.Prelude.{◌≡◌, IfOk, IfErr, IfSome, Ok, Err, None};
+ghost use Rattle.std.specs.Prelude.{◌≡◌, IfOk, IfErr, IfSome, IsNone, Ok, Err, None};
+ghost use Rattle.plain_spelling.specs.declared.NoSpelling.{NoSpelling};
 ghost use Rattle.encoder.specs.Encoding.{encoding};
 ghost use Rattle.move_goals.specs.MovedTargets.Independent.{bytes_without};
 ghost use Rattle.code_assembler.specs.Built.{own_address, encoding_refusal};
@@ -105,14 +106,19 @@ pub fn prepared_from(
     bytes: ArrayVec<u8, 15>,
 ) -> Option<Prepared>
     requires { encoding bits ip instr.now ≡ Ok bytes.items }
-    ensures { IfSome result (λ it. it ≡ record { bits = bits; instr = instr.now }) }
+    ensures made { IfSome result (λ it. it ≡ record { bits = bits; instr = instr.now }) }
+    ensures encoded { IfSome result (λ _. encoding_refusal (encoding bits (own_address instr.now) instr.now) ≡ None) }
+    ensures refused { IsNone result → (why : NoSpelling) × (encoding bits (own_address instr.now) instr.now ≡ Err why) }
 {
     // Four operands, as the proof has to know.
     let [_first, _second, _third, _fourth] = instr.ops;
     laws_below();
     without_target_encoded_alike();
     if target_of(instr).is_some() {
-        return Prepared::new(bits, instr).ok();
+        return match Prepared::new(bits, instr) {
+            Ok(it) => Some(it),
+            Err(_) => None,
+        };
     }
     Some(Prepared {
         bits,
