@@ -56,8 +56,12 @@ extern "C" {
  */
 uint32_t feddurzai_interface(void);
 
-/* Returns the version of the library, which is also the program's: major << 16 | minor << 8 | patch. */
+/*
+ * Returns the version of the library, which is also the program's: major << 16 | minor << 8 | patch. A library that was
+ * built without proofs, for the development of bindings (capi/build.sh --unproved), has the bit FEDDURZAI_UNPROVED too.
+ */
 uint32_t feddurzai_version(void);
+#define FEDDURZAI_UNPROVED 0x80000000u
 
 /* ---- refusals ---------------------------------------------------------------------------------------------- */
 
@@ -356,8 +360,9 @@ typedef struct feddurzai_shape {
 /*
  * Measures the instruction at the front of `bytes` if the opcode table leaves it out, by its encoding format alone:
  * EVEX, VEX, XOP, 3DNow!, and some legacy opcodes (SDM 2.3, 2.7, appendix A; docs/unlisted.md lists them). Whether a
- * processor has the instruction is not checked. No such instruction changes where control goes, except XBEGIN. `bits`,
- * `bytes` and `len` are as in feddurzai_decode; no address is needed. `shape` receives the shape.
+ * processor has the instruction is not checked. XBEGIN, JKZD and JKNZD branch, RSM, UIRET, ERETS and ERETU return, and
+ * some go elsewhere: docs/unlisted.md lists them. `bits`, `bytes` and `len` are as in feddurzai_decode; no address is
+ * needed. `shape` receives the shape.
  *
  * Returns the length of the instruction, 1 to 15, or FEDDURZAI_BAD_MODE, _TOO_SHORT (fewer than 15 bytes, which end
  * inside an encoding that is measured), _INVALID (no such encoding begins there, or an instruction of the table does);

@@ -42,11 +42,19 @@ int main(void)
 {
     unsigned v = feddurzai_version();
     printf("%u %u.%u.%u\n", (unsigned)feddurzai_interface(), v >> 16, v >> 8 & 255, v & 255);
+    if (v & FEDDURZAI_UNPROVED)
+        return 2;
     return feddurzai_interface() != FEDDURZAI_INTERFACE;
 }
 SOURCE
 "$cc" -I"$here" "$work/versions.c" "$from/libfeddurzai.a" -o "$work/versions"
-"$work/versions" >"$work/versions.txt" || { echo "install.sh: the library in $from has another interface than feddurzai.h" >&2; exit 1; }
+status=0
+"$work/versions" >"$work/versions.txt" || status=$?
+case $status in
+    0) ;;
+    2) echo "install.sh: the library in $from was built without proofs" >&2; exit 1 ;;
+    *) echo "install.sh: the library in $from has another interface than feddurzai.h" >&2; exit 1 ;;
+esac
 read -r interface version <"$work/versions.txt"
 
 to=${DESTDIR:-}$prefix

@@ -99,7 +99,7 @@ fi
 program=$programs/listing_program
 [ -x "$program" ] || die "no program $program: run 'rt run -- --version' in crates/listing_program"
 for file in libfeddurzai.a libfeddurzai.so; do
-    [ -f "$libraries/$file" ] || die "no $libraries/$file: run capi/build.sh"
+    [ -f "$libraries/$file" ] || die "no $libraries/$file: run capi/build.sh, without --unproved"
 done
 
 # logic_of FILE: the logic that its section .comment names

@@ -96,7 +96,7 @@ def _vector(reader, bits, seen, rex, lead):
         space, kind = 1, "vex"
     elif lead == 0xC4:
         space, kind = first & 31, "vex"
-        if space not in (1, 2, 3):
+        if space not in (0, 1, 2, 3):
             raise _Unknown
         reader.byte()
     elif lead == 0x8F:
@@ -112,6 +112,13 @@ def _vector(reader, bits, seen, rex, lead):
             raise _Unknown
         reader.byte()
     opcode = reader.byte()
+    if kind == "vex" and (space == 0 or space == 1 and opcode in (0x84, 0x85)):
+        # JKZD and JKNZD, near and short
+        if space == 0 and opcode not in (0x74, 0x75):
+            raise _Unknown
+        count = 1 if space == 0 else _immediate_z(bits, seen, rex)
+        at = reader.at
+        return kind, ("branch", at, count, int.from_bytes(reader.take(count), "little", signed=True))
     if kind == "xop":
         immediates = {8: 1, 9: 0, 10: 4}[space]
     else:
@@ -131,13 +138,14 @@ ONE_BYTE = {
     0xF7: (lambda m: m >> 3 & 7 == 1, "z"),
     0xC6: (lambda m: m == 0xF8, 1),
     0xD9: (lambda m: 0xD8 <= m <= 0xDF, 0),
+    0xDB: (lambda m: m in (0xE0, 0xE1, 0xE4, 0xE5), 0),
     0xDC: (lambda m: 0xD0 <= m <= 0xDF, 0),
     0xDD: (lambda m: 0xC8 <= m <= 0xCF, 0),
     0xDE: (lambda m: 0xD0 <= m <= 0xD7, 0),
     0xDF: (lambda m: 0xC0 <= m <= 0xDF, 0),
 }
 # opcode bytes after 0F with a ModRM byte and nothing else, and those with nothing
-GROUPS = frozenset((0x01, 0x0D, *range(0x18, 0x1F), 0x79, 0xAE, 0xB7, 0xBF, 0xC7, 0xFF))
+GROUPS = frozenset((0x01, 0x0D, *range(0x18, 0x20), 0x79, 0xAE, 0xB7, 0xBF, 0xC7, 0xFF))
 BARE = frozenset((0x0E, 0x37, 0xAA, *range(0xC8, 0xD0)))
 
 
@@ -148,7 +156,7 @@ def _two_byte(reader, bits, seen):
     if opcode in (0x38, 0x3A):
         reader.byte()
         return "legacy", _modrm(reader, bits, seen, reader.byte(), int(opcode == 0x3A))
-    if opcode in BARE:
+    if opcode in BARE or (opcode == 0x09 and repeats[-1:] == [0xF3]):
         return "now3d" if opcode == 0x0E else "legacy", None
     if opcode == 0x0F:
         return "now3d", _modrm(reader, bits, seen, reader.byte(), 1)

@@ -28,14 +28,27 @@ _REPORT = struct.Struct("=6Q")
 _ReportRoom = _native.room_of(_REPORT.size)
 
 
+# The bit of the library's number that is set if nothing was proved.
+_UNPROVED = 0x80000000
+
+
 def version() -> Tuple[int, int, int]:
     """Returns the version of the library: major, minor, patch.
 
     >>> version() >= (0, 1, 0)
     True
     """
-    number = _native.version()
+    number = _native.version() & ~_UNPROVED
     return (number >> 16, number >> 8 & 255, number & 255)
+
+
+def is_proved() -> bool:
+    """Returns whether the library was built from proved crates: `capi/build.sh --unproved` builds it without proofs, for whoever changes a binding.
+
+    >>> isinstance(is_proved(), bool)
+    True
+    """
+    return not _native.version() & _UNPROVED
 
 
 _new: Callable[[Type[Instr]], Instr] = Instr.__new__

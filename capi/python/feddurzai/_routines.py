@@ -1,5 +1,6 @@
 """Routines as text: instructions, labels and data, a line each."""
 
+import dataclasses
 import re
 import struct
 from typing import Dict, Mapping, Tuple
@@ -88,15 +89,20 @@ def _labels_of(text: bytes, labels: bytes) -> Dict[str, int]:
     return {text[offset : offset + size].decode(): address for address, offset, size, _line, has_address in fields if has_address}
 
 
-def _report_of(fields: Tuple[int, ...], reason: int, text: bytes, names: bytes) -> RoutineReport:
-    """The report by its numbers, with the line that is refused and a mark under the column."""
-    report = RoutineReport(*fields)
+def _sizes_of(room: bytes) -> RoutineReport:
+    """The report by its numbers, as the library fills them."""
+    size, slots, labels, line, column, at, address = _REPORT.unpack(room)
+    return RoutineReport(size, slots, labels, line, column, at, address)
+
+
+def _report_of(report: RoutineReport, reason: int, text: bytes, names: bytes) -> RoutineReport:
+    """The report with the line that is refused and a mark under the column."""
     if not report.line:
         return report
     line = (names if reason == Reason.BAD_NAMES else text).split(b"\n")[report.line - 1].rstrip(b"\r")
     front = line[: max(report.column - 1, 0)].decode("utf-8", "replace")
     mark = "".join("\t" if letter == "\t" else " " for letter in front) + "^" if report.column else ""
-    return RoutineReport(*fields, line.decode("utf-8", "replace"), mark)
+    return dataclasses.replace(report, source=line.decode("utf-8", "replace"), mark=mark)
 
 
 def _assembled(bits: int, base: int, text: bytes, names: bytes, slots: bool) -> Routine:
@@ -105,12 +111,12 @@ def _assembled(bits: int, base: int, text: bytes, names: bytes, slots: bool) -> 
     assemble = _native.assemble_code if slots else _native.assemble_code_near
     room = _ReportRoom()
     said = assemble(*given, None, 0, None, 0, room)
-    sizes = RoutineReport(*_REPORT.unpack(room.raw))
+    sizes = _sizes_of(room.raw)
     code, labels = _native.room_of(sizes.bytes)(), _native.room_of(sizes.labels * _LABEL.size)()
     if said == Reason.NO_ROOM:
         said = assemble(*given, code, sizes.bytes, labels, sizes.labels, room)
     if said < 0:
-        raise refusal_of(said, _report_of(_REPORT.unpack(room.raw), said, text, names))
+        raise refusal_of(said, _report_of(_sizes_of(room.raw), said, text, names))
     return Routine(code.raw, _labels_of(text, labels.raw), sizes, (bits, base, text, names, slots))
 
 

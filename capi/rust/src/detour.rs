@@ -212,7 +212,7 @@ impl Detour {
     }
 
     /// Makes a hook as [`Detour::new`] does, also where the opcode table leaves out some instructions of the function, as far
-    /// as [`measure`](crate::measure) measures them. One that is overwritten is moved whole, with its number at RIP set so
+    /// as `feddurzai_measure` measures them. One that is overwritten is moved whole, with its number at RIP set so
     /// that it refers to the same address, or to the moved instruction that began there. Control is followed through such
     /// instructions, and from XBEGIN also to its target.
     ///

@@ -183,7 +183,7 @@ pub fn move_code_outside(bitness: u32, old_ip: u64, code: &[u8], new_ip: u64) ->
 }
 
 /// Moves code as [`move_code`] does, with the instructions that the opcode table leaves out and
-/// [`measure`](crate::measure) measures. Such an instruction is moved whole: its bytes, except that its relative number
+/// `feddurzai_measure` measures. Such an instruction is moved whole: its bytes, except that its relative number
 /// is set so that it refers to the same address, or to the moved instruction that began there.
 ///
 /// # Errors

@@ -40,9 +40,12 @@ pub mod parts {
     pub use decoder::byte_offsets::{ByteOffsets, Part, laws, offsets};
 }
 
-/// Instructions that the opcode table leaves out: their lengths, by the encoding formats alone, and the addresses that they refer to.
+/// Instructions that the opcode table leaves out: their lengths, by the encoding formats alone, where control goes after them, and the addresses that they
+/// refer to.
 pub mod measuring {
-    pub use unlisted::{Kind, MeasureError, Reference, Relative, Shape, laws, measure, target};
+    pub use unlisted::{
+        Kind, MeasureError, Reference, Relative, Shape, ShapeFlow, laws, measure, target,
+    };
 }
 
 /// Writing instructions: the shortest bytes of one, and its parts.

@@ -11,7 +11,7 @@ use feddurzai::format::Intel;
 use feddurzai::hooks::{Detour, DetourError, Hooks, JumpForm, StartTarget, detour};
 use feddurzai::info::laws::well_formed_codes_are_in_the_table;
 use feddurzai::info::{Flow, flow_of};
-use feddurzai::measuring::{Kind, Shape, measure};
+use feddurzai::measuring::{Kind, Shape, ShapeFlow, measure};
 use feddurzai::moving::move_block;
 use feddurzai::region::{NotTaken, Region};
 use feddurzai::rows::code_of;
@@ -107,6 +107,7 @@ fn an_instruction_without_a_row_is_measured(rt: HostRuntime) {
     let want = Shape {
         len: 6,
         kind: Kind::Evex,
+        flow: ShapeFlow::Next,
         relative: None,
     };
     same(&rt, "the shape", &shape, &Ok(want));

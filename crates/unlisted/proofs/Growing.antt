@@ -6,6 +6,7 @@ use Rattle.x86_values.specs.declared.Bits.{Bits}
 use Rattle.instruction_parts.specs.Counting.{is_prefix}
 use Rattle.instruction_parts.specs.Front.{prefix_run}
 use Rattle.unlisted.specs.declared.Kind.{Kind}
+use Rattle.unlisted.specs.declared.ShapeFlow.{ShapeFlow}
 use Rattle.unlisted.specs.declared.Reference.{Reference}
 use Rattle.unlisted.specs.declared.Shape.{Shape}
 use Rattle.unlisted.specs.declared.MeasureError.{MeasureError}
@@ -31,16 +32,16 @@ unfolding relative_of
 relative-inside None used d i disp h = tt
 relative-inside (Some to) used d i disp h = omega arith
 
-ended-sized : (kind : Kind) (reference : Option Reference) (d i used : ℕ) (bytes : List ℕ) (test : Bool) → nat_le (d + i) (length bytes) ≡ test → IsSized used (length bytes) (ended kind reference d i used bytes)
+ended-sized : (kind : Kind) (flow : ShapeFlow) (reference : Option Reference) (d i used : ℕ) (bytes : List ℕ) (test : Bool) → nat_le (d + i) (length bytes) ≡ test → IsSized used (length bytes) (ended kind flow reference d i used bytes)
 unfolding ended
-ended-sized kind reference d i used bytes true h =
+ended-sized kind flow reference d i used bytes true h =
     let room : d + i ≤ length bytes = leb-true (d + i) (length bytes) h in
     rw h (record {
       least = omega arith;
       most = omega arith;
       inside = relative-inside reference used d i (take d bytes) (length-take-le d bytes (omega arith));
     })
-ended-sized kind reference d i used bytes false h = rw h tt
+ended-sized kind flow reference d i used bytes false h = rw h tt
 
 sized-more : (used given : ℕ) (answer : Result Shape MeasureError) → IsSized (used + 1) given answer → IsSized used (suc given) answer
 sized-more used given (Ok s) h = record { least = omega (arith, h.least); most = omega (arith, h.most); inside = h.inside }
@@ -50,7 +51,7 @@ sized-more used given (Err e) h = tt
 pub found-sized : (r : Rest) (used : ℕ) (bytes : List ℕ) → IsSized used (length bytes) (found r used bytes)
 unfolding found
 found-sized Nothing used bytes = tt
-found-sized (End kind reference d i) used bytes = ended-sized kind reference d i used bytes (nat_le (d + i) (length bytes)) refl
+found-sized (End kind flow reference d i) used bytes = ended-sized kind flow reference d i used bytes (nat_le (d + i) (length bytes)) refl
 found-sized (Byte step) used [] = tt
 found-sized (Byte step) used (b ∷ bytes) = sized-more used (length bytes) _ (found-sized (step b) (used + 1) bytes)
 
@@ -77,17 +78,17 @@ Grows given (Ok s) after = (after ≡ Ok s) × (s.len ≤ given)
 Grows given (Err Unknown) after = after ≡ Err Unknown
 Grows given (Err Ended) after = IsBeyond given after
 
-ended-beyond : (kind : Kind) (reference : Option Reference) (d i used given : ℕ) (bytes : List ℕ) (test : Bool) → nat_le (d + i) (length bytes) ≡ test → given < used + (d + i) → IsBeyond given (ended kind reference d i used bytes)
+ended-beyond : (kind : Kind) (flow : ShapeFlow) (reference : Option Reference) (d i used given : ℕ) (bytes : List ℕ) (test : Bool) → nat_le (d + i) (length bytes) ≡ test → given < used + (d + i) → IsBeyond given (ended kind flow reference d i used bytes)
 unfolding ended
-ended-beyond kind reference d i used given bytes true h few = rw h few
-ended-beyond kind reference d i used given bytes false h few = rw h tt
+ended-beyond kind flow reference d i used given bytes true h few = rw h few
+ended-beyond kind flow reference d i used given bytes false h few = rw h tt
 
 le-more : (a b c : ℕ) → nat_le a b ≡ true → nat_le a (b + c) ≡ true
 le-more a b c h = grind arith
 
-ended-grows : (kind : Kind) (reference : Option Reference) (d i used : ℕ) (bytes more : List ℕ) (test : Bool) → nat_le (d + i) (length bytes) ≡ test → Grows (used + length bytes) (ended kind reference d i used bytes) (ended kind reference d i used (bytes ++ more))
+ended-grows : (kind : Kind) (flow : ShapeFlow) (reference : Option Reference) (d i used : ℕ) (bytes more : List ℕ) (test : Bool) → nat_le (d + i) (length bytes) ≡ test → Grows (used + length bytes) (ended kind flow reference d i used bytes) (ended kind flow reference d i used (bytes ++ more))
 unfolding ended
-ended-grows kind reference d i used bytes more true h =
+ended-grows kind flow reference d i used bytes more true h =
     let room : d + i ≤ length bytes = leb-true (d + i) (length bytes) h in
     let short : d ≤ length bytes = omega arith in
     let still : nat_le (d + i) (length (bytes ++ more)) ≡ true = rw length-append (le-more (d + i) (length bytes) (length more) h) in
@@ -95,9 +96,9 @@ ended-grows kind reference d i used bytes more true h =
       rw still (rw (take-append-le d bytes more short) refl),
       omega arith,
     )
-ended-grows kind reference d i used bytes more false h =
+ended-grows kind flow reference d i used bytes more false h =
     let few : length bytes < d + i = leb-false (d + i) (length bytes) h in
-    rw h (ended-beyond kind reference d i used (used + length bytes) (bytes ++ more) _ refl (omega arith))
+    rw h (ended-beyond kind flow reference d i used (used + length bytes) (bytes ++ more) _ refl (omega arith))
 
 grows-at : (given other : ℕ) (before after : Result Shape MeasureError) → given ≡ other → Grows given before after → Grows other before after
 grows-at given other before after e h = subst (λ (n : ℕ). Grows n before after) e h
@@ -106,7 +107,7 @@ grows-at given other before after e h = subst (λ (n : ℕ). Grows n before afte
 pub found-grows : (r : Rest) (used : ℕ) (bytes more : List ℕ) → Grows (used + length bytes) (found r used bytes) (found r used (bytes ++ more))
 unfolding found
 found-grows Nothing used bytes more = refl
-found-grows (End kind reference d i) used bytes more = ended-grows kind reference d i used bytes more (nat_le (d + i) (length bytes)) refl
+found-grows (End kind flow reference d i) used bytes more = ended-grows kind flow reference d i used bytes more (nat_le (d + i) (length bytes)) refl
 found-grows (Byte step) used [] more = subst (λ (n : ℕ). IsBeyond n (found (Byte step) used more)) (omega arith) (byte-beyond step used more)
 found-grows (Byte step) used (b ∷ bytes) more =
     grows-at (used + 1 + length bytes) (used + length (b ∷ bytes)) _ _ (omega arith) (found-grows (step b) (used + 1) bytes more)
@@ -125,15 +126,16 @@ run-le bits [] more = omega arith
 run-le bits (b ∷ bytes) more = run-le-step bits b bytes more (is_prefix bits b) refl (run-le bits bytes more)
 
 -- the bytes of a run, and those behind it
-record RunParts (bits : Bits) (bytes : List ℕ) : Type 0 where
-  count : length bytes ≡ length (prefix_run bits bytes) + length (drop (length (prefix_run bits bytes)) bytes)
+pub record RunParts (bits : Bits) (bytes : List ℕ) : Type 0 where
+  pub count : length bytes ≡ length (prefix_run bits bytes) + length (drop (length (prefix_run bits bytes)) bytes)
 
 run-parts-step : (bits : Bits) (b : ℕ) (bytes : List ℕ) (test : Bool) → is_prefix bits b ≡ test → RunParts bits bytes → RunParts bits (b ∷ bytes)
 unfolding prefix_run
 run-parts-step bits b bytes true h rest = record { count = rw h (omega (arith, rest.count)) }
 run-parts-step bits b bytes false h rest = record { count = rw h (omega arith) }
 
-run-parts : (bits : Bits) (bytes : List ℕ) → RunParts bits bytes
+-- the bytes of a run and those behind it are all
+pub run-parts : (bits : Bits) (bytes : List ℕ) → RunParts bits bytes
 unfolding prefix_run
 run-parts bits [] = record { count = omega arith }
 run-parts bits (b ∷ bytes) = run-parts-step bits b bytes (is_prefix bits b) refl (run-parts bits bytes)

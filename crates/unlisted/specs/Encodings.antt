@@ -10,6 +10,8 @@ use Rattle.row_fit.specs.Fits.{needs_sib, displacement_bytes}
 use Rattle.row_meaning.specs.Meaning.{sign_extended}
 use Rattle.modrm_sib.specs.Parts.{modrm_of_byte, sib_of_byte}
 use Rattle.unlisted.specs.declared.Kind.{Kind}
+use Rattle.unlisted.specs.declared.ShapeFlow.{ShapeFlow}
+use Rattle.unlisted.specs.declared.ShapeFlow.TheVariants as flows
 use Rattle.unlisted.specs.declared.Reference.{Reference}
 use Rattle.unlisted.specs.declared.Reference.TheVariants.{Rip, Eip, Branch}
 use Rattle.unlisted.specs.declared.Relative.{Relative}
@@ -19,7 +21,7 @@ use Rattle.unlisted.specs.declared.MeasureError.TheVariants.{Ended, Unknown}
 use Rattle.unlisted.specs.declared.formats.Tail.{Tail}
 use Rattle.unlisted.specs.declared.formats.Lead.{Lead}
 use Rattle.unlisted.specs.declared.formats.Lead.TheVariants as leads
-use Rattle.unlisted.specs.Formats.{word_bytes, allows, has_modrm, legacy, one_byte_tail, two_byte_tail, lead_of, map_of, stands, vector_tail}
+use Rattle.unlisted.specs.Formats.{allows, has_modrm, legacy, one_byte_tail, two_byte_tail, lead_of, map_of, stands, vector_tail, tail_flow, distance_bytes}
 use Rattle.unlisted.specs.declared.formats.ModRmBytes.TheVariants.{Any}
 
 -- what is still to come of an encoding
@@ -29,7 +31,7 @@ pub data Rest : Type 0 where
   -- one more byte, by which it goes on
   Byte : (ℕ → Rest) → Rest
   -- the bytes that end it, whatever they are: a displacement, which may be relative, and immediates
-  End : Kind → Option Reference → ℕ → ℕ → Rest
+  End : Kind → ShapeFlow → Option Reference → ℕ → ℕ → Rest
 
 -- ---- the parts of an encoding, the last one first
 
@@ -39,26 +41,38 @@ memory_reference bits asize m =
     if is_64 bits && (m.mode3 == 0 && m.rm == 5) then Some (if is_64 asize then Rip else Eip) else None
 
 -- behind ModRM and SIB: the displacement that they ask for (2.1.5), and the immediates
-unfoldable pub end_step : Bits → Bits → Tail → ModRm → Option Sib → Rest
-end_step bits asize t m sib = End t.kind (memory_reference bits asize m) (displacement_bytes asize m sib) t.immediates
+unfoldable pub end_step : Bits → Bits → Tail → ShapeFlow → ModRm → Option Sib → Rest
+end_step bits asize t flow m sib = End t.kind flow (memory_reference bits asize m) (displacement_bytes asize m sib) t.immediates
 
 -- behind ModRM: a SIB where it asks for one (2.1.5)
-unfoldable pub address_step : Bits → Bits → Tail → ModRm → Rest
-address_step bits asize t m =
-    if needs_sib asize m then Byte (λ b. end_step bits asize t m (Some (sib_of_byte b))) else end_step bits asize t m None
+unfoldable pub address_step : Bits → Bits → Tail → ShapeFlow → ModRm → Rest
+address_step bits asize t flow m =
+    if needs_sib asize m then Byte (λ b. end_step bits asize t flow m (Some (sib_of_byte b))) else end_step bits asize t flow m None
 
--- a ModRM byte of the format; the distance of a branch has the operand size, 16 or 32
+-- a branch ends with its distance
+abbrev pub branch_end : Kind → ℕ → Rest
+branch_end kind distance = End kind flows.Branch (Some Branch) distance 0
+
+-- behind a ModRM byte of the format, by the bytes of its distance if it is a branch
+abbrev pub operand_step : Option ℕ → Bits → List ℕ → Tail → ℕ → Rest
+operand_step (Some distance) bits prefixes t b = branch_end t.kind distance
+operand_step None bits prefixes t b =
+    address_step bits (address_size bits (has_67 prefixes)) t (tail_flow prefixes t.flow b) (modrm_of_byte b)
+
+-- a ModRM byte of the format
 unfoldable pub modrm_step : Bits → List ℕ → Tail → ℕ → Rest
 modrm_step bits prefixes t b =
-    if allows t.modrm b then
-    (if t.is_branch then End t.kind (Some Branch) (word_bytes bits prefixes) 0
-    else address_step bits (address_size bits (has_67 prefixes)) t (modrm_of_byte b))
-    else Nothing
+    if allows t.modrm b then operand_step (distance_bytes bits prefixes t.flow) bits prefixes t b else Nothing
+
+-- without a ModRM byte, on which no flow depends here, by the bytes of its distance if it is a branch
+abbrev pub bare_step : Option ℕ → List ℕ → Tail → Rest
+bare_step (Some distance) prefixes t = branch_end t.kind distance
+bare_step None prefixes t = End t.kind (tail_flow prefixes t.flow 0) None 0 t.immediates
 
 -- behind the opcode byte
 unfoldable pub tail_step : Bits → List ℕ → Tail → Rest
 tail_step bits prefixes t =
-    if has_modrm t.modrm then Byte (modrm_step bits prefixes t) else End t.kind None 0 t.immediates
+    if has_modrm t.modrm then Byte (modrm_step bits prefixes t) else bare_step (distance_bytes bits prefixes t.flow) prefixes t
 
 -- behind an opcode byte that has a format, or none
 unfoldable pub opcode_step : Bits → List ℕ → Option Tail → Rest
@@ -67,7 +81,7 @@ opcode_step bits prefixes (Some t) = tail_step bits prefixes t
 
 -- the opcode byte behind an EVEX, a VEX or an XOP of a map
 unfoldable pub vector_step : Bits → List ℕ → Lead → ℕ → Rest
-vector_step bits prefixes lead map = Byte (λ opcode. tail_step bits prefixes (vector_tail lead map opcode))
+vector_step bits prefixes lead map = Byte (λ opcode. opcode_step bits prefixes (vector_tail lead map opcode))
 
 -- the byte behind W, vvvv and pp of an EVEX is any; bit 2 of the byte of W is 1 (2.7.1)
 unfoldable pub evex_step : Bits → List ℕ → ℕ → ℕ → Rest
@@ -119,16 +133,16 @@ relative_of None at disp = None
 relative_of (Some to) at disp = Some (record { to = to; at = at; len = length disp; distance = sign_extended 64 disp })
 
 -- behind so many bytes: the displacement and the immediates that end an encoding
-unfoldable pub ended : Kind → Option Reference → ℕ → ℕ → ℕ → List ℕ → Result Shape MeasureError
-ended kind reference d i used bytes =
+unfoldable pub ended : Kind → ShapeFlow → Option Reference → ℕ → ℕ → ℕ → List ℕ → Result Shape MeasureError
+ended kind flow reference d i used bytes =
     if nat_le (d + i) (length bytes) then
-    Ok (record { len = used + (d + i); kind = kind; relative = relative_of reference used (take d bytes) })
+    Ok (record { len = used + (d + i); kind = kind; flow = flow; relative = relative_of reference used (take d bytes) })
     else Err Ended
 
 -- what some bytes are, behind so many others: the shape, or that they end inside, or that none begins so
 unfoldable pub found : Rest → ℕ → List ℕ → Result Shape MeasureError
 found Nothing used bytes = Err Unknown
-found (End kind reference d i) used bytes = ended kind reference d i used bytes
+found (End kind flow reference d i) used bytes = ended kind flow reference d i used bytes
 found (Byte step) used [] = Err Ended
 found (Byte step) used (b ∷ bytes) = found (step b) (used + 1) bytes
 

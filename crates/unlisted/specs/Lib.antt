@@ -1,3 +1,4 @@
 pub mod Formats
 pub mod Encodings
 pub mod Measured
+pub mod Moved

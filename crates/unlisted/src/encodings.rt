@@ -7,10 +7,10 @@ ghost use Rattle.unlisted.specs.Encodings as spec;
 ghost use Rattle.unlisted.specs.Formats.{legacy};
 
 use crate::formats::{
-    Lead, ModRmBytes, Tail, allows, has_modrm, lead_of, legacy, map_of, one_byte_tail, stands,
-    two_byte_tail, vector_tail, word_bytes,
+    Lead, ModRmBytes, Tail, allows, distance_bytes, has_modrm, lead_of, legacy, map_of,
+    one_byte_tail, stands, tail_flow, two_byte_tail, vector_tail,
 };
-use crate::{Kind, MeasureError, Reference, Relative, Shape};
+use crate::{Kind, MeasureError, Reference, Relative, Shape, ShapeFlow};
 use instruction_parts::counting::{forbids_vex, has_67, is_64, is_prefix};
 use instruction_parts::sizes::{address_size, bit_of_byte};
 use instruction_parts::{ModRm, Sib};
@@ -40,6 +40,7 @@ fn relative_of(reference: Option<Reference>, at: u8, disp: &[u8]) -> Option<Rela
 #[tactic(auto, unfolding(crate::specs::Encodings::found, crate::specs::Encodings::ended))]
 fn read_end(
     kind: Kind,
+    flow: ShapeFlow,
     reference: Option<Reference>,
     disp_len: u8,
     imm_len: u8,
@@ -48,7 +49,7 @@ fn read_end(
 ) -> Result<Shape, MeasureError>
     requires few { used + length bytes.now ≤ 15 }
     requires short { disp_len ≤ 8 }
-    ensures { result ≡ spec.found (spec.End kind reference disp_len imm_len) used bytes.now }
+    ensures { result ≡ spec.found (spec.End kind flow reference disp_len imm_len) used bytes.now }
 {
     let behind = disp_len as usize + imm_len as usize;
     if behind <= bytes.len() {
@@ -56,6 +57,7 @@ fn read_end(
         Ok(Shape {
             len: used + behind as u8,
             kind,
+            flow,
             relative: relative_of(reference, used, disp),
         })
     } else {
@@ -93,17 +95,19 @@ fn read_displacement(
     bits: Bits,
     asize: Bits,
     tail: Tail,
+    flow: ShapeFlow,
     m: ModRm,
     sib: Option<Sib>,
     used: u8,
     bytes: &[u8],
 ) -> Result<Shape, MeasureError>
     requires { used + length bytes.now ≤ 15 }
-    ensures { result ≡ spec.found (spec.end_step bits asize tail m sib) used bytes.now }
+    ensures { result ≡ spec.found (spec.end_step bits asize tail flow m sib) used bytes.now }
 {
     let reference = memory_reference(bits, asize, m);
     let len = displacement_len(asize, m, sib);
-    read_end(tail.kind, reference, len, tail.immediates, used, bytes)
+    let immediates = tail.immediates;
+    read_end(tail.kind, flow, reference, len, immediates, used, bytes)
 }
 
 /// Behind ModRM.
@@ -112,12 +116,13 @@ fn read_address(
     bits: Bits,
     asize: Bits,
     tail: Tail,
+    flow: ShapeFlow,
     m: ModRm,
     used: u8,
     bytes: &[u8],
 ) -> Result<Shape, MeasureError>
     requires { used + length bytes.now ≤ 15 }
-    ensures { result ≡ spec.found (spec.address_step bits asize tail m) used bytes.now }
+    ensures { result ≡ spec.found (spec.address_step bits asize tail flow m) used bytes.now }
 {
     if needs_sib(asize, m) {
         match bytes.split_first() {
@@ -126,6 +131,7 @@ fn read_address(
                 bits,
                 asize,
                 tail,
+                flow,
                 m,
                 Some(sib_of_byte(*b)),
                 used + 1,
@@ -133,8 +139,18 @@ fn read_address(
             ),
         }
     } else {
-        read_displacement(bits, asize, tail, m, None, used, bytes)
+        read_displacement(bits, asize, tail, flow, m, None, used, bytes)
     }
+}
+
+/// The distance that ends a branch.
+fn read_branch(kind: Kind, distance: u8, used: u8, bytes: &[u8]) -> Result<Shape, MeasureError>
+    requires few { used + length bytes.now ≤ 15 }
+    requires short { distance ≤ 8 }
+    ensures { result ≡ spec.found (spec.branch_end kind distance) used bytes.now }
+{
+    let reference = Some(Reference::Branch);
+    read_end(kind, ShapeFlow::Branch, reference, distance, 0, used, bytes)
 }
 
 /// Behind a ModRM byte.
@@ -151,12 +167,13 @@ fn read_modrm(
     ensures { result ≡ spec.found (spec.modrm_step bits prefixes.now tail b) used bytes.now }
 {
     if allows(tail.modrm, b) {
-        if tail.is_branch {
-            let len = word_bytes(bits, prefixes);
-            read_end(tail.kind, Some(Reference::Branch), len, 0, used, bytes)
-        } else {
-            let asize = address_size(bits, has_67(prefixes));
-            read_address(bits, asize, tail, modrm_of_byte(b), used, bytes)
+        match distance_bytes(bits, prefixes, tail.flow) {
+            Some(distance) => read_branch(tail.kind, distance, used, bytes),
+            None => {
+                let asize = address_size(bits, has_67(prefixes));
+                let flow = tail_flow(prefixes, tail.flow, b);
+                read_address(bits, asize, tail, flow, modrm_of_byte(b), used, bytes)
+            }
         }
     } else {
         Err(MeasureError::Unknown)
@@ -181,7 +198,13 @@ fn read_tail(
             Some((b, rest)) => read_modrm(bits, prefixes, tail, *b, used + 1, rest),
         }
     } else {
-        read_end(tail.kind, None, 0, tail.immediates, used, bytes)
+        match distance_bytes(bits, prefixes, tail.flow) {
+            Some(distance) => read_branch(tail.kind, distance, used, bytes),
+            None => {
+                let flow = tail_flow(prefixes, tail.flow, 0);
+                read_end(tail.kind, flow, None, 0, tail.immediates, used, bytes)
+            }
+        }
     }
 }
 
@@ -220,7 +243,7 @@ fn read_vector(
         None => Err(MeasureError::Ended),
         Some((opcode, rest)) => {
             let tail = vector_tail(lead, map, *opcode);
-            read_tail(bits, prefixes, tail, used + 1, rest)
+            read_optional(bits, prefixes, tail, used + 1, rest)
         }
     }
 }

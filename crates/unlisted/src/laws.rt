@@ -9,6 +9,7 @@ ghost use Rattle.unlisted.specs.declared.Shape.{Shape};
 ghost use Rattle.unlisted.specs.declared.MeasureError.{MeasureError};
 ghost use Rattle.unlisted.specs.declared.MeasureError.TheVariants.{Ended};
 ghost use Rattle.unlisted.specs.Measured.{IsMeasured};
+ghost use Rattle.unlisted.specs.Moved.{NearGoalsFit, NumbersHaveTheirLengths, NumbersReferToTheirGoal};
 
 /// Some bytes have at most one answer.
 pub fn answers_are_unique()
@@ -48,4 +49,20 @@ pub fn ended_inside_an_instruction()
 pub fn fifteen_bytes_are_enough()
     ensures { (bits : Bits) (bytes : List ℕ)
         → IsMeasured bits bytes (Err Ended) → length bytes < 15 }
+{}
+
+/// The number of a measured instruction has 4 bytes, or 2 or 1 in a branch.
+pub fn numbers_have_their_lengths()
+    ensures { NumbersHaveTheirLengths }
+{}
+
+/// The bytes that `bytes_at` returns for an instruction whose number fits have the same shape but for the number, which refers to the goal: sign-extended
+/// and added to the address after the instruction it comes to that. All bytes around the number are the old ones.
+pub fn numbers_refer_to_their_goal()
+    ensures { NumbersReferToTheirGoal }
+{}
+
+/// A number of 4 bytes fits for each goal in 16 and 32 bits, and in 64 bits for those within 2 GiB; one of 2 bytes for each goal in 16 bits.
+pub fn near_goals_fit()
+    ensures { NearGoalsFit }
 {}

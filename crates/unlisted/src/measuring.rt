@@ -6,7 +6,8 @@ ghost use Rattle.unlisted.specs.Measured as spec;
 ghost use Rattle.unlisted.specs.Measured.{IsMeasured, IsNeverRead, ReadsNothing, StandsInside};
 
 use crate::encodings::format_of;
-use crate::{MeasureError, Reference, Shape};
+use crate::moved::reference_size;
+use crate::{MeasureError, Shape};
 use decoder::{DecodeError, decode_in};
 use x86_values::{Bits, wrap};
 
@@ -37,8 +38,8 @@ fn reads_nothing(bits: Bits, bytes: &[u8]) -> bool
 /// relative to the address after it.
 ///
 /// The encoding formats alone determine the shape: EVEX, VEX, XOP, 3DNow!, and legacy opcode bytes and groups (Intel SDM volume 2, 2.3, 2.7 and
-/// appendix A). Whether a processor has the instruction is not checked. No instruction that is measured changes where control goes, but XBEGIN. The
-/// shape depends on its own bytes alone. Bytes at whose front an instruction of the table is read are not measured.
+/// appendix A). Whether a processor has the instruction is not checked. Its opcode determines where control goes after it ([`crate::ShapeFlow`]): most
+/// continue with the next instruction. The shape depends on its own bytes alone. Bytes at whose front an instruction of the table is read are not measured.
 ///
 /// Errors: `Ended`: the bytes, fewer than 15, end inside an encoding that is measured, as far as they show. `Unknown`: no such encoding starts here, or
 /// an instruction of the table does.
@@ -66,19 +67,15 @@ pub fn measure(bits: Bits, bytes: &[u8]) -> Result<Shape, MeasureError>
     }
 }
 
-/// Returns the address that the number of an instruction at `ip` refers to, if it has one: memory at RIP or EIP, or where XBEGIN continues after an
-/// abort. It wraps at 64 bits, at 32 bits for EIP, and for XBEGIN at the address size of the mode.
+/// Returns the address that the number of an instruction at `ip` refers to, if it has one: memory at RIP or EIP, or the target of a branch (XBEGIN, JKZD,
+/// JKNZD). It wraps at 64 bits, at 32 bits for EIP, and for a branch at the address size of the mode.
 pub fn target(bits: Bits, ip: u64, shape: &Shape) -> Option<u64>
     ensures { result ≡ spec.relative_target bits ip shape.now.len shape.now.relative }
 {
     match shape.relative {
         None => None,
         Some(relative) => {
-            let size = match relative.to {
-                Reference::Rip => Bits::B64,
-                Reference::Eip => Bits::B32,
-                Reference::Branch => bits,
-            };
+            let size = reference_size(bits, relative.to);
             let next = ip as u128 + shape.len as u128;
             Some(wrap(size, next + relative.distance as u128))
         }

@@ -3,11 +3,11 @@
 use crate::tests::compare::same_text;
 use std::alloc::{AllocError, Global};
 use std::test::Fail;
-use unlisted::{Kind, MeasureError, Reference, Relative, Shape, measure, target};
+use unlisted::{Kind, MeasureError, Reference, Relative, Shape, ShapeFlow, measure, target};
 use x86_values::Bits;
 
-/// The mode; bytes in hexadecimal digits; and the length, the kind and what is relative: where it is, how many bytes it has, and the address that it refers
-/// to, with the first byte at 0x1000. Or `ended`, or `unknown`.
+/// The mode; bytes in hexadecimal digits; and the length, the kind, where control goes if not to the next instruction alone, and what is relative: where it
+/// is, how many bytes it has, and the address that it refers to, with the first byte at 0x1000. Or `ended`, or `unknown`.
 const SHAPES: &str = "
 # EVEX: vaddps zmm0, zmm0, zmm1; vpxord zmm0, zmm0, [rip+0x10], and at EIP
 64 | 62f17c4858c1 | 6 evex
@@ -52,20 +52,55 @@ const SHAPES: &str = "
 64 | 660f79c1 | 4 legacy
 64 | 0f0d00 | 3 legacy
 64 | 0f1c00 | 3 legacy
-64 | 0fffc1 | 3 legacy
+64 | 0fffc1 | 3 legacy raises
 64 | f30f2b00 | 4 legacy
-# getsec; rsm; vmcall; xend; xtest; xabort 1
-64 | 0f37 | 2 legacy
-64 | 0faa | 2 legacy
+# getsec; rsm; vmcall; xend; xtest; xabort 1; vmmcall; and clac, which the table has
+64 | 0f37 | 2 legacy leaves
+64 | 0faa | 2 legacy returns
 64 | 0f01c1 | 3 legacy
 64 | 0f01d5 | 3 legacy
 64 | 0f01d6 | 3 legacy
-64 | c6f801 | 3 legacy
+64 | c6f801 | 3 legacy leaves
+64 | 0f01d9 | 3 legacy
+64 | 0f01ca | unknown
+# vmlaunch; vmresume; enclu; vmrun; skinit; seamret; uiret; erets; eretu; and behind C2 a memory operand, which is lgdt of the table
+64 | 0f01c2 | 3 legacy leaves
+64 | 0f01c3 | 3 legacy leaves
+64 | 0f01d7 | 3 legacy leaves
+64 | 0f01d8 | 3 legacy leaves
+64 | 0f01de | 3 legacy leaves
+64 | 660f01cd | 4 legacy leaves
+64 | 0f01cd | 3 legacy
+64 | f30f01ec | 4 legacy returns
+64 | f20f01ca | 4 legacy returns
+64 | f30f01ca | 4 legacy returns
+64 | 0f0110 | unknown
+# what processors run: wbnoinvd, whose form without F3 is wbinvd of the table; reserved NOPs, /0 of the table; fneni, fndisi, fnsetpm, frstpm, and between
+# them fnclex of the table
+64 | f30f09 | 3 legacy
+64 | 0f09 | unknown
+64 | 0f1fc8 | 3 legacy
+64 | 0f1f7c2440 | 5 legacy
+64 | 0f1fc0 | unknown
+64 | dbe0 | 2 legacy
+64 | dbe1 | 2 legacy
+64 | dbe4 | 2 legacy
+64 | dbe5 | 2 legacy
+64 | dbe2 | unknown
+64 | dbe6 | unknown
+# jkzd and jknzd, near and short
+64 | c5f88410000000 | 7 vex branches branch 3+4 1017
+64 | c4e17885fcffffff | 8 vex branches branch 4+4 1004
+16 | c5f8841000 | 5 vex branches branch 3+2 1015
+64 | c4e0787410 | 5 vex branches branch 4+1 1015
+32 | c4e0787580 | 5 vex branches branch 4+1 f85
+64 | c4e0787610 | unknown
+64 | c4e07874 | ended
 # xbegin with 32 and 16-bit operands
-64 | c7f810000000 | 6 legacy branch 2+4 1016
-64 | 66c7f81000 | 5 legacy branch 3+2 1015
-16 | c7f8feff | 4 legacy branch 2+2 1002
-16 | 66c7f8feffffff | 7 legacy branch 3+4 1005
+64 | c7f810000000 | 6 legacy branches branch 2+4 1016
+64 | 66c7f81000 | 5 legacy branches branch 3+2 1015
+16 | c7f8feff | 4 legacy branches branch 2+2 1002
+16 | 66c7f8feffffff | 7 legacy branches branch 3+4 1005
 # aliases: sal eax, 1; sal eax, 3; test al, 1; test eax, 0x1020304; test ax, 0x102; test rax, 0x1020304; salc; fstp st(0); ffreep st(0)
 64 | d1f0 | 2 legacy
 64 | c1f003 | 3 legacy
@@ -117,6 +152,17 @@ fn kind_word(kind: Kind) -> &'static str {
     }
 }
 
+/// The word of where control goes, with the space before it.
+fn flow_word(flow: ShapeFlow) -> &'static str {
+    match flow {
+        ShapeFlow::Next => "",
+        ShapeFlow::Branch => " branches",
+        ShapeFlow::Return => " returns",
+        ShapeFlow::Elsewhere => " leaves",
+        ShapeFlow::Exception => " raises",
+    }
+}
+
 /// The word of what a number refers to.
 fn reference_word(reference: Reference) -> &'static str {
     match reference {
@@ -135,7 +181,8 @@ fn relative_text(alloc: Global, relative: Relative, address: u64) -> Result<Stri
 /// What a line has of a shape.
 fn shape_text(alloc: Global, bits: Bits, shape: &Shape) -> Result<String, AllocError> {
     let word = kind_word(shape.kind);
-    let mut text = format!(in alloc; "{} {word}", shape.len)?;
+    let flow = flow_word(shape.flow);
+    let mut text = format!(in alloc; "{} {word}{flow}", shape.len)?;
     if let (Some(relative), Some(address)) = (shape.relative, target(bits, 0x1000, shape)) {
         let more = relative_text(alloc, relative, address)?;
         text.push_str(&more)?;
